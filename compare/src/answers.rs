@@ -1,0 +1,143 @@
+//! The expected answer to each call: the crate's where its spans are document 01's,
+//! else document 01's.
+
+use std::fmt;
+use std::io::{self, BufRead, Write};
+
+use crate::calls::Call;
+use crate::document::{self, Protocol, Spans};
+use crate::oracle;
+
+/// Who gave an answer.
+#[derive(Clone, Copy)]
+pub enum Source {
+    Crate,
+    /// The crate's spans differ at that rate.
+    OtherSpans,
+    /// The duration is above 32 bits: the crate cannot take it.
+    AboveCrate,
+    Refused,
+    NotUnderstood,
+}
+
+pub struct Answer {
+    pub text: String,
+    pub source: Source,
+}
+
+/// How many answers each source gave, in the order of `Source`.
+#[derive(Default)]
+pub struct Counts([u64; 5]);
+
+impl Counts {
+    pub fn add(&mut self, source: Source) {
+        self.0[source as usize] += 1;
+    }
+
+    pub fn all(&self) -> u64 {
+        self.0.iter().sum()
+    }
+}
+
+impl fmt::Display for Counts {
+    fn fmt(&self, f: &mut fmt::Formatter) -> fmt::Result {
+        let [by_crate, other_spans, above_crate, refused, not_understood] = self.0;
+        write!(
+            f,
+            "answered by the crate {}, by document 01 where the crate's spans differ {}, \
+             by document 01 above 32 bits {}, refused {}, not understood {}",
+            by_crate, other_spans, above_crate, refused, not_understood
+        )
+    }
+}
+
+pub fn answer(call: &Call) -> Answer {
+    let told = match *call {
+        Call::Spans { protocol, rate } => spans(protocol, rate),
+        Call::Lookup {
+            protocol,
+            rate,
+            duration,
+        } => lookup(protocol, rate, duration),
+    };
+    let (text, source) =
+        told.unwrap_or_else(|refusal| (format!("refused {}", refusal), Source::Refused));
+    Answer { text, source }
+}
+
+/// The answer to a line without its newline.
+pub fn answer_line(line: &[u8]) -> Answer {
+    match Call::parse(line) {
+        Some(call) => answer(&call),
+        None => Answer {
+            text: "not understood".to_string(),
+            source: Source::NotUnderstood,
+        },
+    }
+}
+
+/// An answer and its source, or a refusal.
+type Told = Result<(String, Source), u32>;
+
+fn spans(protocol: u32, rate: u32) -> Told {
+    let protocol = document::admit(protocol, rate)?;
+    let (spans, source) = expected_spans(protocol, rate);
+    let shown: Vec<String> = (0..spans.len())
+        .map(|place| show_span(&spans, place))
+        .collect();
+    Ok((shown.join(" "), source))
+}
+
+fn lookup(protocol: u32, rate: u32, duration: u64) -> Told {
+    let protocol = document::admit(protocol, rate)?;
+    let (place, source) = expected_place(protocol, rate, duration);
+    Ok((show_place(place, "place "), source))
+}
+
+/// The spans and who gave them.
+pub fn expected_spans(protocol: Protocol, rate: u32) -> (Spans, Source) {
+    let exact = document::spans(protocol, rate);
+    let found = oracle::spans(protocol, rate);
+    if found == exact {
+        (found, Source::Crate)
+    } else {
+        (exact, Source::OtherSpans)
+    }
+}
+
+/// The place of a duration and who gave it.
+pub fn expected_place(protocol: Protocol, rate: u32, duration: u64) -> (Option<usize>, Source) {
+    let (spans, source) = expected_spans(protocol, rate);
+    match (u32::try_from(duration), source) {
+        (Err(_), _) => (None, Source::AboveCrate),
+        (Ok(short), Source::Crate) => (oracle::lookup(protocol, rate, short), source),
+        (Ok(_), _) => (document::lookup(&spans, duration), source),
+    }
+}
+
+pub fn show_span(spans: &Spans, place: usize) -> String {
+    format!("{}..{}", spans[place].low, spans[place].high)
+}
+
+pub fn show_place(place: Option<usize>, before: &str) -> String {
+    match place {
+        Some(place) => format!("{}{}", before, place),
+        None => "none".to_string(),
+    }
+}
+
+/// Answers each line of `calls`; the last may lack its newline.
+pub fn answer_all(mut calls: impl BufRead, mut answers: impl Write) -> io::Result<Counts> {
+    let mut counts = Counts::default();
+    let mut line = Vec::new();
+    while calls.read_until(b'\n', &mut line)? > 0 {
+        if line.last() == Some(&b'\n') {
+            line.pop();
+        }
+        let answer = answer_line(&line);
+        writeln!(answers, "{}", answer.text)?;
+        counts.add(answer.source);
+        line.clear();
+    }
+    Ok(counts)
+}

@@ -1,0 +1,75 @@
+//! The rates and durations that are tried, and the calls of the large run.
+
+use std::collections::BTreeSet;
+
+use crate::calls::Call;
+use crate::document::{self, Protocol, PROTOCOLS};
+
+pub type Calls = Box<dyn Iterator<Item = Call> + Send>;
+
+/// The parts of the large run, in their order. Each makes the same calls each time.
+const PARTS: [fn() -> Calls; 1] = [spans_part];
+
+/// The rates of the large run: at the turns of the rules and of the crate's arithmetic,
+/// and spread between.
+#[rustfmt::skip]
+pub const RATES: [u32; 80] = [
+    // From the lowest; a real base is 0 at some, and duration 0 moves to the padding at others.
+    1, 2, 3, 10, 75, 100, 375, 500, 892, 893, 999, 1000, 1001, 1124, 1125, 1190, 1191, 2252, 2253,
+    // Rates that receivers poll at or count with.
+    8000, 10_000, 12_999, 20_000, 27_027, 32_768, 38_000, 40_000, 41_999, 44_100, 48_000, 100_000,
+    // Of each protocol the smallest rate at which the crate has other spans, and the one before.
+    318_145, 318_146, 477_218, 477_219, 858_993, 858_994, 1_612_237, 1_612_238, 2_415_617, 2_415_618,
+    // Spread over the range, multiples of 1000.
+    125_000, 250_000, 500_000, 750_000, 1_000_000, 1_500_000, 2_000_000, 2_500_000, 3_000_000,
+    4_000_000, 5_000_000, 6_000_000, 7_000_000, 8_000_000, 9_000_000, 9_600_000, 9_673_000,
+    // And others.
+    65_537, 123_457, 299_999, 333_333, 400_001, 600_007, 999_999, 1_000_001, 1_193_182, 1_843_200,
+    2_097_152, 2_796_203, 3_579_545, 3_686_400, 4_194_304, 4_433_619, 5_555_555, 6_789_012,
+    7_372_800, 8_388_607, 9_673_348, 9_673_349,
+];
+
+/// Every call of the large run.
+pub fn large() -> Calls {
+    Box::new(PARTS.into_iter().flat_map(|part| part()))
+}
+
+/// The spans of each protocol at each rate, and the durations at their ends.
+fn spans_part() -> Calls {
+    Box::new(PROTOCOLS.into_iter().flat_map(|protocol| {
+        RATES.into_iter().flat_map(move |rate| {
+            let ends = lookups_at_ends(protocol, rate);
+            std::iter::once(spans_call(protocol, rate)).chain(ends)
+        })
+    }))
+}
+
+pub fn spans_call(protocol: Protocol, rate: u32) -> Call {
+    Call::Spans {
+        protocol: protocol.number(),
+        rate,
+    }
+}
+
+pub fn lookup_call(protocol: Protocol, rate: u32, duration: u64) -> Call {
+    Call::Lookup {
+        protocol: protocol.number(),
+        rate,
+        duration,
+    }
+}
+
+/// A lookup of each duration at, one below and one above an end, each once.
+pub fn lookups_at_ends(protocol: Protocol, rate: u32) -> impl Iterator<Item = Call> {
+    let mut durations = BTreeSet::new();
+    for span in document::spans(protocol, rate) {
+        for end in [span.low, span.high] {
+            durations.insert(end.saturating_sub(1));
+            durations.insert(end);
+            durations.insert(end + 1);
+        }
+    }
+    durations
+        .into_iter()
+        .map(move |duration| lookup_call(protocol, rate, duration))
+}

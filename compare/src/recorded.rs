@@ -1,0 +1,167 @@
+//! The fixed list of calls for the recorded test.
+
+use std::io::{self, Write};
+
+use crate::calls::Call;
+use crate::document::{Protocol, LAST_RATE, PROTOCOLS};
+use crate::lists::{lookup_call, lookups_at_ends, spans_call};
+use crate::rates::SMALLEST_OTHER;
+
+const MHZ: u32 = 1_000_000;
+
+/// A line of this length is longer than the buffers that a reader is likely to have.
+const LONG: usize = 70_000;
+
+/// Prints the list. Its last line has no newline.
+pub fn write(out: &mut impl Write) -> io::Result<()> {
+    for call in understood() {
+        writeln!(out, "{}", call)?;
+    }
+    for line in not_understood() {
+        out.write_all(&line)?;
+        out.write_all(b"\n")?;
+    }
+    for line in leading_zeros() {
+        writeln!(out, "{}", line)?;
+    }
+    write!(out, "lookup 5 1000000 5000")
+}
+
+fn understood() -> Vec<Call> {
+    let mut calls = Vec::new();
+    for protocol in PROTOCOLS {
+        calls.extend(at_rates(protocol));
+    }
+    calls.extend(document_numbers());
+    for protocol in PROTOCOLS {
+        calls.extend(extremes(protocol));
+    }
+    calls.extend(refusals());
+    calls
+}
+
+/// Spans at a few rates, and the durations at their ends at some of them.
+fn at_rates(protocol: Protocol) -> Vec<Call> {
+    let other = SMALLEST_OTHER[protocol.index()];
+    let mut calls = Vec::new();
+    for rate in [MHZ, 1, 999, 38_000, LAST_RATE, other - 1, other] {
+        calls.push(spans_call(protocol, rate));
+    }
+    for rate in [MHZ, 999, 38_000, other] {
+        calls.extend(lookups_at_ends(protocol, rate));
+    }
+    calls
+}
+
+/// The durations that document 01 names, at 1 MHz.
+fn document_numbers() -> Vec<Call> {
+    let nec = [1063, 1064, 1176, 1177, 5000, 11250, 13500];
+    let rc5 = [0, 889, 1778];
+    let rc6 = [0, 1954, 1989, 1990, 2345, 2486, 2487, 2984];
+    let named: [(Protocol, &[u64]); 3] = [
+        (Protocol::Nec, &nec),
+        (Protocol::Rc5, &rc5),
+        (Protocol::Rc6, &rc6),
+    ];
+    let mut calls = Vec::new();
+    for (protocol, durations) in named {
+        for &duration in durations {
+            calls.push(lookup_call(protocol, MHZ, duration));
+        }
+    }
+    calls
+}
+
+/// Duration 0, the last of 32 bits, the first above, and the last of 64.
+fn extremes(protocol: Protocol) -> Vec<Call> {
+    let last = u64::from(u32::MAX);
+    [0, last, last + 1, u64::MAX]
+        .into_iter()
+        .map(|duration| lookup_call(protocol, MHZ, duration))
+        .collect()
+}
+
+/// Each refusal and its order, and the rates beside them that are taken.
+fn refusals() -> Vec<Call> {
+    let mut calls = Vec::new();
+    for protocol in [0, 6, u32::MAX] {
+        for rate in [0, 1, MHZ, LAST_RATE + 1] {
+            calls.extend(both_calls(protocol, rate, 0));
+        }
+    }
+    for protocol in PROTOCOLS {
+        for rate in [0, LAST_RATE + 1, u32::MAX, 1, LAST_RATE] {
+            calls.extend(both_calls(protocol.number(), rate, 0));
+        }
+    }
+    calls.extend(both_calls(0, 0, u64::MAX));
+    calls.extend(both_calls(1, 0, u64::MAX));
+    calls
+}
+
+fn both_calls(protocol: u32, rate: u32, duration: u64) -> [Call; 2] {
+    let lookup = Call::Lookup {
+        protocol,
+        rate,
+        duration,
+    };
+    [Call::Spans { protocol, rate }, lookup]
+}
+
+/// Lines that are no call, by what is wrong with them.
+#[rustfmt::skip]
+const WRONG: [&[&[u8]]; 9] = [
+    // Nothing, or an unknown word.
+    &[b"", b" ", b"hello", b"span 1 1000000", b"spanss 1 1000000", b"Spans 1 1000000", b"1 1000000"],
+    // Too few numbers.
+    &[b"spans", b"spans 1", b"lookup", b"lookup 1", b"lookup 1 1000000"],
+    // Too many.
+    &[b"spans 1 1000000 1", b"lookup 1 1000000 1 1", b"spans 1 1000000 spans 1 1000000"],
+    // Blanks that are one too many.
+    &[
+        b"spans  1 1000000", b"spans 1  1000000", b" spans 1 1000000", b"spans 1 1000000 ",
+        b"spans ", b"spans 1 ", b"lookup 1 1000000 ", b"lookup  1000000 1",
+    ],
+    // A letter, a mark or a neighbour of the digits in a number.
+    &[
+        b"spans a 1000000", b"spans 1 100000x", b"lookup 1 1000000 0x10", b"lookup 1 1000000 1e3",
+        b"spans 1 1_000_000", b"spans 1 1000000.0", b"spans 1,1000000", b"spans 1 100/", b"spans 1 100:",
+    ],
+    // A sign.
+    &[b"spans +1 1000000", b"spans -1 1000000", b"lookup 1 1000000 +5", b"lookup 1 1000000 -0"],
+    // Numbers too large, some of which would be taken if they went round.
+    &[
+        b"spans 1 4294967296", b"spans 1 4295967296", b"spans 4294967297 1000000",
+        b"spans 1 18446744073709551616", b"lookup 1 1000000 18446744073709551616",
+        b"lookup 1 1000000 18446744073709565116", b"lookup 1 1000000 184467440737095516150",
+        b"lookup 1 1000000 36893488147419116732", b"lookup 4294967296 0 0", b"lookup 1 4294967296 0",
+    ],
+    // Other blanks and control bytes.
+    &[
+        b"spans\t1\t1000000", b"spans 1\t1000000", b"\tspans 1 1000000", b"spans 1 1000000\t",
+        b"spans 1 1000000\r", b"\r", b"\0", b"spans 1 1000000\0", b"spans\x0b1 1000000", b"spans 1\x0c1000000",
+    ],
+    // Bytes above 127: no text, and digits of other scripts.
+    &[
+        b"\xff\xfe", b"spans 1 1000000\xff", b"spans 1 100\xe9", b"spans 1 \xb2", b"\xc3(",
+        b"spans\xc2\xa01 1000000", b"spans 1 \xd9\xa1", b"spans 1 \xef\xbc\x91", b"\xef\xbb\xbfspans 1 1000000",
+    ],
+];
+
+fn not_understood() -> Vec<Vec<u8>> {
+    let mut lines: Vec<Vec<u8>> = WRONG.concat().iter().map(|line| line.to_vec()).collect();
+    lines.push(vec![b'x'; LONG]);
+    lines.push(vec![b' '; LONG]);
+    lines.push(format!("spans 1 {}", "9".repeat(LONG)).into_bytes());
+    lines
+}
+
+/// Numbers with leading zeros: understood, however long.
+fn leading_zeros() -> Vec<String> {
+    vec![
+        "spans 01 0001000000".to_string(),
+        "spans 00 1000000".to_string(),
+        "lookup 0001 00000000001000000 000000000000000000000013500".to_string(),
+        format!("lookup 1 1000000 {}13500", "0".repeat(LONG)),
+    ]
+}

@@ -1,0 +1,4 @@
+pub mod Entries
+pub mod Within
+pub mod Determined
+pub mod Numbers

@@ -1,0 +1,83 @@
+-- Document 01's numbers on spans at 1 MHz, each by computation from the rules: the nineteen spans that it prints, and its starred numbers.
+-- Assumes nothing.
+use mathlib.Core.Path.{_≡_, refl}
+use mathlib.Core.List.{List, [], _∷_}
+use Prim.Native.Nat.{ℕ}
+use Rattle.spans.specs.declared.Span.{Span}
+use Rattle.spans.specs.declared.Found.{Found}
+use Rattle.spans.specs.declared.Found.the-variants.{At, Nothing}
+use Rattle.spans.specs.Spans.{spanAt, spansAt}
+use Rattle.spans.specs.Lookup.{lookupOf, lowestFrom}
+
+-- "12555..14445"
+abbrev to : ℕ → ℕ → Span
+to low high = record { low = low; high = high }
+
+-- the spans of a protocol at 1 MHz, at the places given
+abbrev spansOn : ℕ → List ℕ → List Span
+spansOn protocol [] = []
+spansOn protocol (place ∷ places) = spanAt protocol 1000000 place ∷ spansOn protocol places
+
+pub nec-spans : spansOn 1 (0 ∷ 1 ∷ 2 ∷ 3 ∷ []) ≡ to 12555 14445 ∷ to 10463 12037 ∷ to 1064 1176 ∷ to 2138 2362 ∷ []
+nec-spans = refl
+
+pub rc5-spans : spansOn 2 (0 ∷ 1 ∷ []) ≡ to 783 995 ∷ to 1601 1955 ∷ []
+rc5-spans = refl
+
+pub rc6-spans
+    : spansOn 3 (0 ∷ 1 ∷ 2 ∷ 3 ∷ 4 ∷ 5 ∷ [])
+    ≡ to 391 497 ∷ to 782 994 ∷ to 1173 1491 ∷ to 1563 1989 ∷ to 1954 2486 ∷ to 2345 2983 ∷ []
+rc6-spans = refl
+
+pub sbp-spans : spansOn 4 (0 ∷ 1 ∷ 2 ∷ 3 ∷ []) ≡ to 8550 9450 ∷ to 4750 5250 ∷ to 900 1100 ∷ to 1800 2200 ∷ []
+sbp-spans = refl
+
+pub denon-spans : spansOn 5 (0 ∷ 1 ∷ 2 ∷ []) ≡ to 4600 5400 ∷ to 756 924 ∷ to 1512 1848 ∷ []
+denon-spans = refl
+
+-- the place that a duration reads at 1 MHz; RC5 and RC6 call place + 1 its ticks
+abbrev pub reads : ℕ → ℕ → Found
+reads protocol duration = lookupOf (spansAt protocol 1000000) duration
+
+-- "NEC total 1063 is invalid; 1064 and 1176 are zero; 1177 is invalid"
+pub nec-1063 : reads 1 1063 ≡ Nothing
+unfolding spansAt lowestFrom
+nec-1063 = refl
+
+pub nec-1064 : reads 1 1064 ≡ At 2
+unfolding spansAt lowestFrom
+nec-1064 = refl
+
+pub nec-1176 : reads 1 1176 ≡ At 2
+unfolding spansAt lowestFrom
+nec-1176 = refl
+
+pub nec-1177 : reads 1 1177 ≡ Nothing
+unfolding spansAt lowestFrom
+nec-1177 = refl
+
+-- "RC6 1989 reads 4; 1990 reads 5; 2486 reads 5; 2487 reads 6"
+pub rc6-1989 : reads 3 1989 ≡ At 3
+unfolding spansAt lowestFrom
+rc6-1989 = refl
+
+pub rc6-1990 : reads 3 1990 ≡ At 4
+unfolding spansAt lowestFrom
+rc6-1990 = refl
+
+pub rc6-2486 : reads 3 2486 ≡ At 4
+unfolding spansAt lowestFrom
+rc6-2486 = refl
+
+pub rc6-2487 : reads 3 2487 ≡ At 5
+unfolding spansAt lowestFrom
+rc6-2487 = refl
+
+-- "RC5 duration 0 reads 3; RC6 duration 0 reads 7"
+pub rc5-0 : reads 2 0 ≡ At 2
+unfolding spansAt lowestFrom
+rc5-0 = refl
+
+pub rc6-0 : reads 3 0 ≡ At 6
+unfolding spansAt lowestFrom
+rc6-0 = refl

@@ -1,0 +1,22 @@
+-- `spans::tables::percent_at` meets its contract: the code's table is the definition's, entry by entry. Assumes nothing.
+use borrow.Author.Needs.{needs}
+use Prim.Native.Nat.{_-_}
+use Rattle.spans.specs.Tables.{percents}
+use Rattle.spans.proofs.Entries.{entry-le}
+use Rattle.spans.proofs.tables.percent_at.Statement.{statement}
+use Rattle.spans.proofs.tables.percent_at.Tie as tie
+
+returns : tie.Need-returns
+returns c = (search needs, entry-le 12 percents tt (c .before .args .protocol - 1) (c .before .args .place))
+
+pub percent-at-spec : {M : Type 1} → statement M
+percent-at-spec =
+    tie.close
+    (tie.spec
+    (λ c. search needs)
+    (λ c. search needs)
+    (λ c. search needs)
+    (λ c. search needs)
+    (λ c. search needs)
+    (λ c. search needs)
+    returns)

@@ -1,0 +1,166 @@
+// Document 01, "Spans": the spans of a protocol at a rate, and the lookup of a duration in spans.
+mod tables;
+
+ghost use mathlib.Core.Path.{_≡_};
+ghost use Prim.Native.Nat.{_*_, _/_, _<_, _≤_};
+ghost use Rattle.spans.specs.Spans.{within, spanOf, spanAt, spansAt, rateTaken, protocolTaken, spansOf, refused};
+ghost use Rattle.spans.specs.Lookup.{lookupIn, lookupOf};
+
+pub struct Span {
+    pub low: u32,
+    pub high: u32,
+}
+
+// The ends of eight spans, by place.
+pub struct Spans {
+    pub low: [u32; 8],
+    pub high: [u32; 8],
+}
+
+pub enum Answer {
+    Taken,
+    Refused(u32),
+}
+
+// An enum cannot hold an array, so the spans stand beside the answer. With a refusal they are all 0.
+pub struct SpansAnswer {
+    pub answer: Answer,
+    pub spans: Spans,
+}
+
+// The lowest place whose span holds a duration.
+pub enum Found {
+    At(u32),
+    Nothing,
+}
+
+// The margin about a base.
+fn margin(base: u32, percent: u32) -> u32
+    requires { ⌜ (base ≤ 130590) × (percent ≤ 12) ⌝ }
+    ensures { λ r. ⌜ r ≡ base * percent / 100 ⌝ }
+{
+    base * percent / 100
+}
+
+// The span about a base, both ends included.
+fn span_of(base: u32, percent: u32) -> Span
+    requires { ⌜ (base ≤ 130590) × (percent ≤ 12) ⌝ }
+    ensures { λ r. ⌜ r ≡ spanOf base percent ⌝ }
+{
+    let margin = margin(base, percent);
+    Span {
+        low: base - margin,
+        high: base + margin,
+    }
+}
+
+// The span at a protocol's place. The base is exact: length × rate needs up to 37 bits.
+fn span_at(protocol: u32, rate: u32, place: usize) -> Span
+    requires { ⌜ (1 ≤ protocol) × (protocol ≤ 5) × (rate ≤ 9673349) × (place < 8) ⌝ }
+    ensures { λ r. ⌜ r ≡ spanAt protocol rate place ⌝ }
+{
+    let length = tables::length_at(protocol, place);
+    let base = (length as u64) * (rate as u64) / 1000000;
+    span_of(base as u32, tables::percent_at(protocol, place))
+}
+
+fn spans_at(protocol: u32, rate: u32) -> Spans
+    requires { ⌜ (1 ≤ protocol) × (protocol ≤ 5) × (rate ≤ 9673349) ⌝ }
+    ensures { λ r. ⌜ r ≡ spansAt protocol rate ⌝ }
+{
+    let a = span_at(protocol, rate, 0);
+    let b = span_at(protocol, rate, 1);
+    let c = span_at(protocol, rate, 2);
+    let d = span_at(protocol, rate, 3);
+    let e = span_at(protocol, rate, 4);
+    let f = span_at(protocol, rate, 5);
+    let g = span_at(protocol, rate, 6);
+    let h = span_at(protocol, rate, 7);
+    Spans {
+        low: [a.low, b.low, c.low, d.low, e.low, f.low, g.low, h.low],
+        high: [
+            a.high,
+            b.high,
+            c.high,
+            d.high,
+            e.high,
+            f.high,
+            g.high,
+            h.high,
+        ],
+    }
+}
+
+fn refusal(number: u32) -> SpansAnswer
+    ensures { λ r. ⌜ r ≡ refused number ⌝ }
+{
+    SpansAnswer {
+        answer: Answer::Refused(number),
+        spans: Spans {
+            low: [0; 8],
+            high: [0; 8],
+        },
+    }
+}
+
+fn is_within(low: u32, x: u64, high: u32) -> bool
+    ensures { λ r. ⌜ r ≡ within low x high ⌝ }
+{
+    if low as u64 <= x {
+        x <= high as u64
+    } else {
+        false
+    }
+}
+
+// The protocols that have spans: 1 to 5.
+fn protocol_taken(protocol: u32) -> bool
+    ensures { λ r. ⌜ r ≡ protocolTaken protocol ⌝ }
+{
+    is_within(1, protocol as u64, 5)
+}
+
+// The rates that every call takes: 1 to 9,673,349.
+pub fn rate_taken(rate: u32) -> bool
+    ensures { λ r. ⌜ r ≡ rateTaken rate ⌝ }
+{
+    is_within(1, rate as u64, 9673349)
+}
+
+// The spans of a protocol at a rate. Refusals: 2, then 1.
+pub fn spans_of(protocol: u32, rate: u32) -> SpansAnswer
+    ensures { λ r. ⌜ r ≡ spansOf protocol rate ⌝ }
+{
+    if !protocol_taken(protocol) {
+        return refusal(2);
+    }
+    if !rate_taken(rate) {
+        return refusal(1);
+    }
+    let spans = spans_at(protocol, rate);
+    SpansAnswer {
+        answer: Answer::Taken,
+        spans,
+    }
+}
+
+// The lookup in span ends that the caller lends. A duration may be a sum above 32 bits, which no span holds.
+pub fn lookup_in<'a>(low: &'a [u32; 8], high: &'a [u32; 8], duration: u64) -> Found
+    ensures { λ r. ⌜ r ≡ lookupIn (now (low .entry)) (now (high .entry)) duration ⌝ }
+{
+    let mut place: usize = 0;
+    while place < 8 {
+        if is_within(low[place], duration, high[place]) {
+            return Found::At(place as u32);
+        }
+        place += 1;
+    }
+    Found::Nothing
+}
+
+// The lookup in spans by value.
+pub fn lookup(spans: Spans, duration: u64) -> Found
+    ensures { λ r. ⌜ r ≡ lookupOf spans duration ⌝ }
+{
+    lookup_in(&spans.low, &spans.high, duration)
+}

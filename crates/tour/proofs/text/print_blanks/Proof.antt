@@ -1,0 +1,19 @@
+-- `tour::text::print_blanks` is safe and ends: what is written is a part of the blanks. Assumes nothing.
+use native.Mathlib.Omega.{arith}
+use lib.ListN.{length-take}
+use borrow.Author.Needs.{needs}
+use Rattle.tour.proofs.text.print_blanks.Statement.{statement}
+use Rattle.tour.proofs.text.print_blanks.Tie as tie
+
+slice-aggregate-write-all : tie.Need-slice-aggregate-write-all
+slice-aggregate-write-all c = simp length-take (omega arith)
+
+pub print-blanks-spec : {M : Type 1} → statement M
+print-blanks-spec =
+    tie.close
+    (tie.spec
+    (λ c. search needs)
+    slice-aggregate-write-all
+    (λ c κs. search needs)
+    (λ c. search needs)
+    (λ c. search needs))
