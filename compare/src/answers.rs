@@ -1,11 +1,12 @@
 //! The expected answer to each call: the crate's where its spans are document 01's,
-//! else document 01's.
+//! else document 01's. The answer to an encode call is in encode.rs.
 
 use std::fmt;
 use std::io::{self, BufRead, Write};
 
 use crate::calls::Call;
 use crate::document::{self, Protocol, Spans};
+use crate::encode;
 use crate::oracle;
 
 /// Who gave an answer.
@@ -16,42 +17,52 @@ pub enum Source {
     OtherSpans,
     /// The duration is above 32 bits: the crate cannot take it.
     AboveCrate,
+    /// The crate's encoders are not built at that rate.
+    NotBuilt,
     Refused,
     NotUnderstood,
 }
 
-pub struct Answer {
-    pub text: String,
-    pub source: Source,
-}
-
 /// How many answers each source gave, in the order of `Source`.
 #[derive(Default)]
-pub struct Counts([u64; 5]);
+pub struct Counts([u64; 6]);
 
 impl Counts {
     pub fn add(&mut self, source: Source) {
         self.0[source as usize] += 1;
     }
 
+    pub fn of(&self, source: Source) -> u64 {
+        self.0[source as usize]
+    }
+
     pub fn all(&self) -> u64 {
         self.0.iter().sum()
+    }
+
+    pub fn join(mut self, other: &Counts) -> Counts {
+        for (count, more) in self.0.iter_mut().zip(&other.0) {
+            *count += more;
+        }
+        self
     }
 }
 
 impl fmt::Display for Counts {
     fn fmt(&self, f: &mut fmt::Formatter) -> fmt::Result {
-        let [by_crate, other_spans, above_crate, refused, not_understood] = self.0;
+        let [by_crate, other_spans, above_crate, not_built, refused, not_understood] = self.0;
         write!(
             f,
             "answered by the crate {}, by document 01 where the crate's spans differ {}, \
-             by document 01 above 32 bits {}, refused {}, not understood {}",
-            by_crate, other_spans, above_crate, refused, not_understood
+             by document 01 above 32 bits {}, by document 01 at a rate that is not built {}, \
+             refused {}, not understood {}",
+            by_crate, other_spans, above_crate, not_built, refused, not_understood
         )
     }
 }
 
-pub fn answer(call: &Call) -> Answer {
+/// Adds the answer to `text`.
+pub fn answer(call: &Call, text: &mut Vec<u8>) -> Source {
     let told = match *call {
         Call::Spans { protocol, rate } => spans(protocol, rate),
         Call::Lookup {
@@ -59,20 +70,22 @@ pub fn answer(call: &Call) -> Answer {
             rate,
             duration,
         } => lookup(protocol, rate, duration),
+        Call::Encode(ref call) => return encode::answer(call, text),
     };
-    let (text, source) =
+    let (shown, source) =
         told.unwrap_or_else(|refusal| (format!("refused {}", refusal), Source::Refused));
-    Answer { text, source }
+    text.extend_from_slice(shown.as_bytes());
+    source
 }
 
-/// The answer to a line without its newline.
-pub fn answer_line(line: &[u8]) -> Answer {
+/// Adds the answer to a line without its newline.
+fn answer_line(line: &[u8], text: &mut Vec<u8>) -> Source {
     match Call::parse(line) {
-        Some(call) => answer(&call),
-        None => Answer {
-            text: "not understood".to_string(),
-            source: Source::NotUnderstood,
-        },
+        Some(call) => answer(&call, text),
+        None => {
+            text.extend_from_slice(b"not understood");
+            Source::NotUnderstood
+        }
     }
 }
 
@@ -130,14 +143,16 @@ pub fn show_place(place: Option<usize>, before: &str) -> String {
 pub fn answer_all(mut calls: impl BufRead, mut answers: impl Write) -> io::Result<Counts> {
     let mut counts = Counts::default();
     let mut line = Vec::new();
+    let mut text = Vec::new();
     while calls.read_until(b'\n', &mut line)? > 0 {
         if line.last() == Some(&b'\n') {
             line.pop();
         }
-        let answer = answer_line(&line);
-        writeln!(answers, "{}", answer.text)?;
-        counts.add(answer.source);
+        counts.add(answer_line(&line, &mut text));
+        text.push(b'\n');
+        answers.write_all(&text)?;
         line.clear();
+        text.clear();
     }
     Ok(counts)
 }

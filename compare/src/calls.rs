@@ -4,6 +4,8 @@
 use std::convert::TryFrom;
 use std::fmt;
 
+use crate::frames::{Command, ROOM};
+
 pub enum Call {
     /// The eight spans.
     Spans { protocol: u32, rate: u32 },
@@ -13,6 +15,16 @@ pub enum Call {
         rate: u32,
         duration: u64,
     },
+    /// The durations of a frame, in a lent buffer.
+    Encode(Encode),
+}
+
+/// The buffer has `room` places, and place i holds 4,000,000,000 + i before the call.
+pub struct Encode {
+    pub protocol: u32,
+    pub rate: u32,
+    pub command: Command,
+    pub room: usize,
 }
 
 impl Call {
@@ -29,6 +41,7 @@ impl Call {
                 rate: words.number()?,
                 duration: words.number()?,
             },
+            b"encode" => Call::Encode(words.encode()?),
             _ => return None,
         };
         match words.next() {
@@ -47,7 +60,17 @@ impl fmt::Display for Call {
                 rate,
                 duration,
             } => write!(f, "lookup {} {} {}", protocol, rate, duration),
+            Call::Encode(call) => write!(f, "encode {}", call),
         }
+    }
+}
+
+impl fmt::Display for Encode {
+    fn fmt(&self, f: &mut fmt::Formatter) -> fmt::Result {
+        write!(f, "{} {}", self.protocol, self.rate)?;
+        let told = &self.command;
+        write!(f, " {} {} {}", told.address, told.command, told.start)?;
+        write!(f, " {} {}", u8::from(told.toggle), self.room)
     }
 }
 
@@ -62,6 +85,28 @@ impl<'a, I: Iterator<Item = &'a [u8]>> Words<I> {
     /// The next word as a number that fits its parameter.
     fn number<N: TryFrom<u64>>(&mut self) -> Option<N> {
         N::try_from(number(self.next()?)?).ok()
+    }
+
+    fn number_up_to(&mut self, last: usize) -> Option<usize> {
+        self.number().filter(|&number| number <= last)
+    }
+
+    fn encode(&mut self) -> Option<Encode> {
+        Some(Encode {
+            protocol: self.number()?,
+            rate: self.number()?,
+            command: self.command()?,
+            room: self.number_up_to(ROOM)?,
+        })
+    }
+
+    fn command(&mut self) -> Option<Command> {
+        Some(Command {
+            address: self.number()?,
+            command: self.number()?,
+            start: self.number()?,
+            toggle: self.number_up_to(1)? == 1,
+        })
     }
 }
 

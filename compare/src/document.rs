@@ -71,10 +71,16 @@ pub type Spans = [Span; PLACES];
 pub fn admit(protocol: u32, rate: u32) -> Result<Protocol, u32> {
     let named = PROTOCOLS.iter().find(|p| p.number() == protocol);
     let named = *named.ok_or(2u32)?;
+    admit_rate(rate)?;
+    Ok(named)
+}
+
+/// Refusal 1.
+pub fn admit_rate(rate: u32) -> Result<(), u32> {
     if rate == 0 || rate > LAST_RATE {
         return Err(1);
     }
-    Ok(named)
+    Ok(())
 }
 
 fn span(length: u64, percent: u64, rate: u32) -> Span {

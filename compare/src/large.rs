@@ -8,29 +8,41 @@ use std::thread;
 use crate::answers::{answer, expected_spans, Counts, Source};
 use crate::calls::Call;
 use crate::document::{Protocol, PROTOCOLS};
-use crate::lists::{self, RATES};
+use crate::lists::{Part, RATES};
+
+/// The answers to many calls fit it: fewer turns between us and the program.
+const BUFFER: usize = 1 << 16;
+
+/// The parts that are run.
+pub type Parts = &'static [Part];
 
 /// Whether the program gives every answer; prints the counts, or what is wrong.
-pub fn run(out: &mut impl Write, program: &OsString, arguments: &[OsString]) -> io::Result<bool> {
+pub fn run(
+    out: &mut impl Write,
+    parts: Parts,
+    program: &OsString,
+    arguments: &[OsString],
+) -> io::Result<bool> {
     let child = Command::new(program)
         .args(arguments)
         .stdin(Stdio::piped())
         .stdout(Stdio::piped())
         .spawn()?;
-    let conversed = converse(child);
+    let conversed = converse(parts, child);
     match &conversed {
-        Ok(counts) => print_counts(out, counts)?,
+        Ok(counts) => print_counts(out, parts, counts)?,
         Err(wrong) => writeln!(out, "{}", wrong)?,
     }
     Ok(conversed.is_ok())
 }
 
-/// Writes and compares at once; the counts, or what is wrong.
-fn converse(mut child: Child) -> Result<Counts, String> {
+/// Writes and compares at once; the counts of each part, or what is wrong.
+fn converse(parts: Parts, mut child: Child) -> Result<Vec<Counts>, String> {
     let input = child.stdin.take().expect("the program's input is a pipe");
     let output = child.stdout.take().expect("the program's output is a pipe");
-    let writer = thread::spawn(move || write_calls(&mut BufWriter::new(input)));
-    let compared = compare_answers(BufReader::new(output));
+    let writer =
+        thread::spawn(move || write_calls(&mut BufWriter::with_capacity(BUFFER, input), parts));
+    let compared = compare_answers(parts, &mut BufReader::with_capacity(BUFFER, output));
     if compared.is_err() {
         // The writer may wait for a reader for ever: it ends with us.
         let _ = child.kill();
@@ -49,27 +61,22 @@ fn converse(mut child: Child) -> Result<Counts, String> {
     compared
 }
 
-/// Writes the whole list.
-pub fn write_calls(to: &mut impl Write) -> io::Result<()> {
-    for call in lists::large() {
+/// Writes every call of the parts.
+pub fn write_calls(to: &mut impl Write, parts: Parts) -> io::Result<()> {
+    for call in parts.iter().flat_map(|part| (part.calls)()) {
         writeln!(to, "{}", call)?;
     }
     to.flush()
 }
 
-fn compare_answers(mut answers: impl BufRead) -> Result<Counts, String> {
-    let mut counts = Counts::default();
+fn compare_answers(parts: Parts, answers: &mut impl BufRead) -> Result<Vec<Counts>, String> {
+    let mut all = Vec::new();
     let mut number = 0;
-    for call in lists::large() {
-        number += 1;
-        let expected = answer(&call);
-        let actual = next_line(&mut answers)?;
-        if actual != format!("{}\n", expected.text).as_bytes() {
-            return Err(difference(number, &call, &expected.text, &actual));
-        }
-        counts.add(expected.source);
+    for part in parts {
+        all.push(compare_part(part, answers, &mut number)?);
     }
-    let more = next_line(&mut answers)?;
+    let mut more = Vec::new();
+    read_line(answers, &mut more)?;
     if !more.is_empty() {
         return Err(format!(
             "line {}, after the last answer: {}",
@@ -77,23 +84,45 @@ fn compare_answers(mut answers: impl BufRead) -> Result<Counts, String> {
             show(&more)
         ));
     }
+    Ok(all)
+}
+
+/// `number` is that of the line before, and then of the part's last.
+fn compare_part(
+    part: &Part,
+    answers: &mut impl BufRead,
+    number: &mut u64,
+) -> Result<Counts, String> {
+    let mut counts = Counts::default();
+    let mut expected = Vec::new();
+    let mut actual = Vec::new();
+    for call in (part.calls)() {
+        *number += 1;
+        expected.clear();
+        counts.add(answer(&call, &mut expected));
+        expected.push(b'\n');
+        read_line(answers, &mut actual)?;
+        if actual != expected {
+            return Err(difference(*number, &call, &expected, &actual));
+        }
+    }
     Ok(counts)
 }
 
 /// The next line with its newline; empty at the end.
-fn next_line(answers: &mut impl BufRead) -> Result<Vec<u8>, String> {
-    let mut line = Vec::new();
-    let read = answers.read_until(b'\n', &mut line);
+fn read_line(answers: &mut impl BufRead, line: &mut Vec<u8>) -> Result<(), String> {
+    line.clear();
+    let read = answers.read_until(b'\n', line);
     read.map_err(|wrong| format!("no answer could be read: {}", wrong))?;
-    Ok(line)
+    Ok(())
 }
 
-fn difference(number: u64, call: &Call, expected: &str, actual: &[u8]) -> String {
+fn difference(number: u64, call: &Call, expected: &[u8], actual: &[u8]) -> String {
     format!(
         "line {}\ncall     {}\nexpected {}\nactual   {}",
         number,
         call,
-        expected,
+        show(expected),
         show(actual)
     )
 }
@@ -107,9 +136,30 @@ fn show(line: &[u8]) -> String {
     }
 }
 
-fn print_counts(out: &mut impl Write, counts: &Counts) -> io::Result<()> {
-    writeln!(out, "calls, each answered as expected: {}", counts.all())?;
-    writeln!(out, "{}", counts)?;
+fn print_counts(out: &mut impl Write, parts: Parts, counts: &[Counts]) -> io::Result<()> {
+    let all = counts.iter().fold(Counts::default(), Counts::join);
+    writeln!(out, "calls, each answered as expected: {}", all.all())?;
+    writeln!(out, "{}", all)?;
+    for (part, counts) in parts.iter().zip(counts) {
+        let (calls, by_crate) = (counts.all(), counts.of(Source::Crate));
+        let refused = counts.of(Source::Refused);
+        writeln!(
+            out,
+            "part {:8}{:>8}: by the crate {}, by document 01 {}, refused {}",
+            part.name,
+            calls,
+            by_crate,
+            calls - by_crate - refused,
+            refused
+        )?;
+    }
+    if parts.iter().any(|part| part.name == "spans") {
+        print_rates(out)?;
+    }
+    Ok(())
+}
+
+fn print_rates(out: &mut impl Write) -> io::Result<()> {
     writeln!(
         out,
         "of the {} listed rates the crate's spans are",

@@ -4,11 +4,35 @@ use std::collections::BTreeSet;
 
 use crate::calls::Call;
 use crate::document::{self, Protocol, PROTOCOLS};
+use crate::frame_lists;
 
 pub type Calls = Box<dyn Iterator<Item = Call> + Send>;
 
-/// The parts of the large run, in their order. Each makes the same calls each time.
-const PARTS: [fn() -> Calls; 1] = [spans_part];
+/// A part of the large run. It makes the same calls each time.
+pub struct Part {
+    pub name: &'static str,
+    pub calls: fn() -> Calls,
+}
+
+/// The parts of the large run, in their order.
+pub static PARTS: [Part; 6] = [
+    part("spans", spans_part),
+    part("nec", frame_lists::nec_part),
+    part("rc5", frame_lists::rc5_part),
+    part("rc6", frame_lists::rc6_part),
+    part("mixed", frame_lists::mixed_part),
+    part("rates", frame_lists::any_rate_part),
+];
+
+const fn part(name: &'static str, calls: fn() -> Calls) -> Part {
+    Part { name, calls }
+}
+
+/// The part of that name alone.
+pub fn part_named(name: &str) -> Option<&'static [Part]> {
+    let named = PARTS.iter().find(|part| part.name == name);
+    named.map(std::slice::from_ref)
+}
 
 /// The rates of the large run: at the turns of the rules and of the crate's arithmetic,
 /// and spread between.
@@ -28,11 +52,6 @@ pub const RATES: [u32; 80] = [
     2_097_152, 2_796_203, 3_579_545, 3_686_400, 4_194_304, 4_433_619, 5_555_555, 6_789_012,
     7_372_800, 8_388_607, 9_673_348, 9_673_349,
 ];
-
-/// Every call of the large run.
-pub fn large() -> Calls {
-    Box::new(PARTS.into_iter().flat_map(|part| part()))
-}
 
 /// The spans of each protocol at each rate, and the durations at their ends.
 fn spans_part() -> Calls {

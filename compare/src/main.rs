@@ -4,11 +4,16 @@
 mod answers;
 mod calls;
 mod document;
+mod encode;
+mod encoders;
+mod frame_lists;
+mod frames;
 mod large;
 mod lists;
 mod oracle;
 mod rates;
 mod recorded;
+mod recorded_frames;
 mod tour;
 
 use std::env;
@@ -16,13 +21,17 @@ use std::ffi::OsString;
 use std::io::{self, BufWriter, Write};
 use std::process::ExitCode;
 
+use crate::large::Parts;
+
 const USAGE: &str = "usage:
   compare answers                    the expected answers to the calls on stdin
   compare recorded                   the calls of the recorded test
-  compare calls                      the calls of the large run
-  compare large PROGRAM [ARGS..]     the large run against a program
+  compare calls [--part NAME]        the calls of the large run
+  compare large [--part NAME] PROGRAM [ARGS..]
+                                     the large run against a program
   compare rates                      where the crate's spans are ours, over every rate
-  compare tour RATE [DURATION]       what the program tour prints";
+  compare tour WORDS..               what the program tour prints
+the parts of the large run:";
 
 fn main() -> ExitCode {
     let words: Vec<OsString> = env::args_os().skip(1).collect();
@@ -30,7 +39,8 @@ fn main() -> ExitCode {
         Ok(Some(true)) => ExitCode::SUCCESS,
         Ok(Some(false)) => ExitCode::from(1),
         Ok(None) => {
-            eprintln!("{}", USAGE);
+            let names: Vec<&str> = lists::PARTS.iter().map(|part| part.name).collect();
+            eprintln!("{} {}", USAGE, names.join(", "));
             ExitCode::from(2)
         }
         Err(wrong) => {
@@ -48,37 +58,34 @@ fn run(words: &[OsString]) -> io::Result<Option<bool>> {
     let held = match (name.unwrap_or(""), rest) {
         ("answers", []) => answer_stdin(out).map(Some),
         ("recorded", []) => recorded::write(out).map(|()| Some(true)),
-        ("calls", []) => large::write_calls(out).map(|()| Some(true)),
-        ("large", [program, arguments @ ..]) => large::run(out, program, arguments).map(Some),
+        ("calls", choice) => match choose_parts(choice) {
+            Some((parts, [])) => large::write_calls(out, parts).map(|()| Some(true)),
+            _ => Ok(None),
+        },
+        ("large", choice) => match choose_parts(choice) {
+            Some((parts, [program, rest @ ..])) => large::run(out, parts, program, rest).map(Some),
+            _ => Ok(None),
+        },
         ("rates", []) => rates::run(out).map(Some),
-        ("tour", [rate]) => tour(out, rate, None),
-        ("tour", [rate, duration]) => tour(out, rate, Some(duration)),
+        ("tour", words) => tour::run(out, words),
         _ => Ok(None),
     };
     out.flush()?;
     held
 }
 
+/// All parts, or the one that the words name, and the words after; `None` where it is unknown.
+fn choose_parts(words: &[OsString]) -> Option<(Parts, &[OsString])> {
+    match words {
+        [option, name, rest @ ..] if option == "--part" => {
+            Some((lists::part_named(name.to_str()?)?, rest))
+        }
+        _ => Some((&lists::PARTS, words)),
+    }
+}
+
 fn answer_stdin(out: &mut impl Write) -> io::Result<bool> {
     let counts = answers::answer_all(io::stdin().lock(), out)?;
     eprintln!("{}", counts);
     Ok(true)
-}
-
-fn tour(
-    out: &mut impl Write,
-    rate: &OsString,
-    duration: Option<&OsString>,
-) -> io::Result<Option<bool>> {
-    let number = |word: &OsString| {
-        word.to_str()
-            .and_then(|text| calls::number(text.as_bytes()))
-    };
-    let rate = number(rate).and_then(|rate| u32::try_from(rate).ok());
-    match (rate, duration.map(number)) {
-        (Some(rate), None) => tour::run(out, rate, None)?,
-        (Some(rate), Some(Some(duration))) => tour::run(out, rate, Some(duration))?,
-        _ => return Ok(None),
-    }
-    Ok(Some(true))
 }

@@ -6,6 +6,7 @@ use crate::calls::Call;
 use crate::document::{Protocol, LAST_RATE, PROTOCOLS};
 use crate::lists::{lookup_call, lookups_at_ends, spans_call};
 use crate::rates::SMALLEST_OTHER;
+use crate::recorded_frames;
 
 const MHZ: u32 = 1_000_000;
 
@@ -37,6 +38,7 @@ fn understood() -> Vec<Call> {
         calls.extend(extremes(protocol));
     }
     calls.extend(refusals());
+    calls.extend(recorded_frames::calls());
     calls
 }
 
@@ -110,7 +112,7 @@ fn both_calls(protocol: u32, rate: u32, duration: u64) -> [Call; 2] {
 
 /// Lines that are no call, by what is wrong with them.
 #[rustfmt::skip]
-const WRONG: [&[&[u8]]; 9] = [
+const WRONG: [&[&[u8]]; 14] = [
     // Nothing, or an unknown word.
     &[b"", b" ", b"hello", b"span 1 1000000", b"spanss 1 1000000", b"Spans 1 1000000", b"1 1000000"],
     // Too few numbers.
@@ -146,6 +148,35 @@ const WRONG: [&[&[u8]]; 9] = [
         b"\xff\xfe", b"spans 1 1000000\xff", b"spans 1 100\xe9", b"spans 1 \xb2", b"\xc3(",
         b"spans\xc2\xa01 1000000", b"spans 1 \xd9\xa1", b"spans 1 \xef\xbc\x91", b"\xef\xbb\xbfspans 1 1000000",
     ],
+    // The same of encode: an unknown word, too few numbers, too many.
+    &[
+        b"encod 1 1000000 4 8 0 0 67", b"encodes 1 1000000 4 8 0 0 67", b"Encode 1 1000000 4 8 0 0 67",
+        b"encode", b"encode 1", b"encode 1 1000000", b"encode 1 1000000 4 8", b"encode 1 1000000 4 8 0",
+        b"encode 1 1000000 4 8 0 0", b"encode 1 1000000 4 8 0 0 67 0", b"encode 1 1000000 4 8 0 0 67 encode",
+    ],
+    // Blanks that are one too many, and other blanks.
+    &[
+        b"encode  1 1000000 4 8 0 0 67", b"encode 1 1000000 4 8 0 0  67", b"encode 1 1000000 4 8 0 0 67 ",
+        b"encode 1 1000000 4 8 0 0 ", b"encode 1 1000000 4 8 0\t0 67", b"encode 1 1000000 4 8 0 0 67\r",
+    ],
+    // A sign, a letter or a mark.
+    &[
+        b"encode 1 1000000 -1 8 0 0 67", b"encode 1 1000000 4 +8 0 0 67", b"encode 1 1000000 4 8 0 false 67",
+        b"encode 1 1000000 4 8 0 0 x", b"encode 1 1000000 0x4 8 0 0 67", b"encode nec 1000000 4 8 0 0 67",
+    ],
+    // Numbers above their field, though within others.
+    &[
+        b"encode 1 1000000 256 8 0 0 67", b"encode 1 1000000 4 256 0 0 67", b"encode 2 1000000 4 8 256 0 67",
+        b"encode 2 1000000 4 8 3 2 67", b"encode 2 1000000 4 8 3 10 67", b"encode 1 1000000 4 8 0 0 101",
+        b"encode 1 1000000 4 8 0 0 256", b"encode 1 1000000 4 8 0 0 356", b"encode 1 1000000 4 8 0 256 67",
+    ],
+    // Numbers too large, even where a refusal would come first.
+    &[
+        b"encode 4294967297 1000000 4 8 0 0 67", b"encode 1 4295967296 4 8 0 0 67", b"encode 0 0 256 0 0 0 0",
+        b"encode 1 1000000 4294967300 8 0 0 67", b"encode 1 1000000 4 8 0 4294967296 67", b"encode 0 0 0 0 0 2 0",
+        b"encode 1 1000000 4 8 0 0 4294967363", b"encode 1 1000000 4 8 0 0 18446744073709551683",
+        b"encode 0 0 0 0 0 0 101", b"encode 1 0 0 0 256 0 0",
+    ],
 ];
 
 fn not_understood() -> Vec<Vec<u8>> {
@@ -163,5 +194,7 @@ fn leading_zeros() -> Vec<String> {
         "spans 00 1000000".to_string(),
         "lookup 0001 00000000001000000 000000000000000000000013500".to_string(),
         format!("lookup 1 1000000 {}13500", "0".repeat(LONG)),
+        "encode 01 0001000000 0004 008 000 00 0067".to_string(),
+        format!("encode 2 1000000 0 0 3 {}1 26", "0".repeat(LONG)),
     ]
 }

@@ -105,3 +105,12 @@ fn is_whole(line: Line) -> bool {
 pub fn is_call(line: Line, name: u64, count: usize) -> bool {
     line.good && line.name == name && line.count == count && is_whole(line)
 }
+
+// A number fits 32 bits; and its low 32 bits, which are then the number.
+pub fn is_u32(x: u64) -> bool {
+    x <= 0xFFFFFFFF
+}
+
+pub fn low_32(x: u64) -> u32 {
+    (x % 0x100000000) as u32
+}

@@ -2,6 +2,8 @@
 // The calls and their answers are listed in README.md, "The call language".
 mod calls;
 mod line;
+mod on_frames;
+mod on_spans;
 mod out;
 
 use calls::answered;

@@ -28,3 +28,11 @@ pub fn put_with(text: &mut [u8], at: usize, word: &[u8], x: u64) -> usize {
     let next = put_all(text, at, word);
     put_number(text, next, x)
 }
+
+// A blank before each place but the first.
+pub fn put_gap(text: &mut [u8], at: usize, place: usize) -> usize {
+    if 0 < place {
+        return put(text, at, b' ');
+    }
+    at
+}

@@ -8,6 +8,7 @@ use Rattle.spans.proofs.rate_taken as rate-taken
 use Rattle.spans.proofs.spans_of as spans-of
 use Rattle.spans.proofs.lookup_in as lookup-in
 use Rattle.spans.proofs.lookup as lookup
+use Rattle.spans.proofs.place_of as place-of
 
 module _ {M : Type 1} (𝓤 : URA M) (H : Heap 𝓤) (𝓜 : Model 𝓤 H) (𝓖 : GhostRules 𝓤 H) (𝓡 : Running 𝓤 H 𝓜) where
   rate-taken-settled : Settled 𝓤 H (𝓖 .A) rate-taken.ended (rate-taken.clauses 𝓤 H (𝓖 .A) (𝓜 .mem) (𝓡 .run)) (𝓡 .run rate-taken.Symbol.routine)
@@ -21,3 +22,6 @@ module _ {M : Type 1} (𝓤 : URA M) (H : Heap 𝓤) (𝓜 : Model 𝓤 H) (𝓖
 
   lookup-settled : Settled 𝓤 H (𝓖 .A) lookup.ended (lookup.clauses 𝓤 H (𝓖 .A) (𝓜 .mem) (𝓡 .run)) (𝓡 .run lookup.Symbol.routine)
   lookup-settled = (lookup.Met.met 𝓤 H 𝓜 𝓖 𝓡, λ κs a g h r s v w. both one one alike)
+
+  place-of-settled : Settled 𝓤 H (𝓖 .A) place-of.ended (place-of.clauses 𝓤 H (𝓖 .A) (𝓜 .mem) (𝓡 .run)) (𝓡 .run place-of.Symbol.routine)
+  place-of-settled = (place-of.Met.met 𝓤 H 𝓜 𝓖 𝓡, λ κs a g h r s v w. both one one alike)

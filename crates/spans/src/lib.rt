@@ -4,7 +4,7 @@ mod tables;
 ghost use mathlib.Core.Path.{_≡_};
 ghost use Prim.Native.Nat.{_*_, _/_, _<_, _≤_};
 ghost use Rattle.spans.specs.Spans.{within, spanOf, spanAt, spansAt, rateTaken, protocolTaken, spansOf, refused};
-ghost use Rattle.spans.specs.Lookup.{lookupIn, lookupOf};
+ghost use Rattle.spans.specs.Lookup.{lookupIn, lookupOf, placeOf};
 
 pub struct Span {
     pub low: u32,
@@ -163,4 +163,14 @@ pub fn lookup(spans: Spans, duration: u64) -> Found
     ensures { λ r. ⌜ r ≡ lookupOf spans duration ⌝ }
 {
     lookup_in(&spans.low, &spans.high, duration)
+}
+
+// The place as a number: 8 is none of the eight.
+pub fn place_of(found: Found) -> u32
+    ensures { λ r. ⌜ r ≡ placeOf found ⌝ }
+{
+    match found {
+        Found::At(place) => place,
+        Found::Nothing => 8,
+    }
 }

@@ -1,142 +1,94 @@
-// What `./run` shows: the spans of all five protocols at a rate, and the place of a duration.
-// Arguments: RATE, 1000000 where there is none, and DURATION.
+// What `./run` shows. `./run help` lists the words that it takes.
+mod frame_table;
+mod span_table;
 mod text;
 
-use libc::STDOUT_FILENO;
-use spans::Answer;
-use spans::Found;
-use spans::Spans;
 use text::Number;
+use text::print;
 
-fn print(s: &[u8]) {
-    io::write_all(STDOUT_FILENO, s);
-}
-
-fn print_header() {
-    print(
-        b"place             NEC             RC5             RC6             SBP           Denon\n",
-    );
-}
-
-fn print_span(low: u32, high: u32) {
-    text::print_blanks(text::width_of_two(low as u64, high as u64));
-    io::print_decimal(STDOUT_FILENO, low as u64);
-    print(b"..");
-    io::print_decimal(STDOUT_FILENO, high as u64);
-}
-
-// The span of a protocol at a place.
-fn print_span_at(protocol: u32, rate: u32, place: usize) {
-    let built = spans::spans_of(protocol, rate);
-    let s = built.spans;
-    if place < 8 {
-        print_span(s.low[place], s.high[place]);
-    }
-}
-
-fn print_row(rate: u32, place: usize) {
-    io::print_decimal(STDOUT_FILENO, place as u64);
-    print(b"    ");
-    print_span_at(1, rate, place);
-    print_span_at(2, rate, place);
-    print_span_at(3, rate, place);
-    print_span_at(4, rate, place);
-    print_span_at(5, rate, place);
-    print(b"\n");
-}
-
-fn print_spans(rate: u32) {
-    print(b"Spans at ");
-    io::print_decimal(STDOUT_FILENO, rate as u64);
-    print(b" Hz, in ticks, both ends included\n");
-    print_header();
-    let mut place: usize = 0;
-    while place < 8 {
-        print_row(rate, place);
-        place += 1;
-    }
-}
-
-fn print_found(found: Found) {
-    match found {
-        Found::At(place) => {
-            text::print_blanks(text::width(place as u64));
-            io::print_decimal(STDOUT_FILENO, place as u64);
-        }
-        Found::Nothing => {
-            text::print_blanks(4);
-            print(b"none");
-        }
-    }
-}
-
-fn print_place(protocol: u32, rate: u32, duration: u64) {
-    let built = spans::spans_of(protocol, rate);
-    let s = built.spans;
-    print_found(spans::lookup(s, duration));
-}
-
-fn print_places(rate: u32, duration: u64) {
-    print(b"\nPlace of duration ");
-    io::print_decimal(STDOUT_FILENO, duration);
-    print(b"\nplace");
-    print_place(1, rate, duration);
-    print_place(2, rate, duration);
-    print_place(3, rate, duration);
-    print_place(4, rate, duration);
-    print_place(5, rate, duration);
-    print(b"\n");
-}
-
-fn print_refused(number: u32) {
-    print(b"refused ");
-    io::print_decimal(STDOUT_FILENO, number as u64);
-    print(b"\n");
-}
-
-// The argument at a place, as a number.
-fn argument(i: usize) -> Number {
+// The number at a place of the arguments; not good where there is none.
+fn number_at(i: usize) -> Number {
     let mut s = io::buffer();
     let n = os::arg(i, &mut s);
     text::number_of(&s[..n])
 }
 
-fn show(rate: u32, duration: Number) {
-    let built = spans::spans_of(1, rate);
-    let answer = built.answer;
-    match answer {
-        Answer::Taken => {
-            print_spans(rate);
-            if duration.good {
-                print_places(rate, duration.value);
-            }
-        }
-        Answer::Refused(number) => print_refused(number),
-    }
+fn is_word(i: usize, word: &[u8]) -> bool {
+    let mut s = io::buffer();
+    let n = os::arg(i, &mut s);
+    check::same(&s[..n], word)
+}
+
+fn help() {
+    print(b"./run [RATE [DURATION]]\n");
+    print(b"    the spans of all five protocols, and the place of a duration\n");
+    print(b"./run frame PROTOCOL RATE ADDRESS COMMAND [START TOGGLE]\n");
+    print(
+        b"    the frame of a command: 1 NEC, 2 RC5, 3 RC6; START is 3 and TOGGLE 0 where they are left out\n",
+    );
 }
 
 fn usage() {
-    print(b"usage: ./run [RATE [DURATION]], in decimal, RATE below 2^32 and DURATION below 2^64\n");
+    print(b"not understood: ./run help lists what is\n");
 }
 
-// RATE, where it is a number that fits.
-fn rate_of(count: usize) -> Number {
-    if count < 2 {
-        return Number {
-            value: 1000000,
-            good: true,
-        };
+fn run_spans(count: usize) {
+    let rate = if count < 2 {
+        text::good(1000000)
+    } else {
+        number_at(1)
+    };
+    let duration = number_at(2);
+    if rate.good && rate.value <= 0xFFFFFFFF && count <= 3 && (count < 3 || duration.good) {
+        span_table::show((rate.value % 0x100000000) as u32, duration);
+    } else {
+        usage();
     }
-    argument(1)
+}
+
+fn run_frame(count: usize) {
+    let protocol = number_at(2);
+    let rate = number_at(3);
+    let addr = number_at(4);
+    let cmd = number_at(5);
+    let start = if count == 6 {
+        text::good(3)
+    } else {
+        number_at(6)
+    };
+    let toggle = if count == 6 {
+        text::good(0)
+    } else {
+        number_at(7)
+    };
+    if (count == 6 || count == 8)
+        && text::is_at_most(protocol, 0xFFFFFFFF)
+        && text::is_at_most(rate, 0xFFFFFFFF)
+        && text::is_at_most(addr, 255)
+        && text::is_at_most(cmd, 255)
+        && text::is_at_most(start, 255)
+        && text::is_at_most(toggle, 1)
+    {
+        frame_table::show(
+            (protocol.value % 0x100000000) as u32,
+            (rate.value % 0x100000000) as u32,
+            (addr.value % 256) as u8,
+            (cmd.value % 256) as u8,
+            (start.value % 256) as u8,
+            toggle.value == 1,
+        );
+    } else {
+        usage();
+    }
 }
 
 fn main() {
     let count = os::arg_count();
-    let rate = rate_of(count);
-    let duration = argument(2);
-    if rate.good && rate.value <= 0xFFFFFFFF && (count < 3 || (count == 3 && duration.good)) {
-        show((rate.value % 0x100000000) as u32, duration);
+    if is_word(1, b"help") {
+        help();
+    } else if is_word(1, b"frame") {
+        run_frame(count);
     } else {
-        usage();
+        run_spans(count);
     }
 }

@@ -1,9 +1,21 @@
 // Numbers as text: read from an argument, and printed in columns.
 use libc::STDOUT_FILENO;
 
+pub fn print(s: &[u8]) {
+    io::write_all(STDOUT_FILENO, s);
+}
+
 pub struct Number {
     pub value: u64,
     pub good: bool,
+}
+
+pub fn good(value: u64) -> Number {
+    Number { value, good: true }
+}
+
+pub fn is_at_most(n: Number, most: u64) -> bool {
+    n.good && n.value <= most
 }
 
 // One more digit of a number below 2^64.
@@ -55,11 +67,30 @@ pub fn width_of_two(low: u64, high: u64) -> usize {
     0
 }
 
-// Blanks that fill a column of 16 before so many characters.
-pub fn print_blanks(used: usize) {
+// Blanks that fill a column, of at most 16, before so many characters.
+pub fn print_blanks(column: usize, used: usize) {
     let blanks = [b' '; 16];
-    if used <= 16 {
-        let n = 16 - used;
-        io::write_all(STDOUT_FILENO, &blanks[..n]);
+    if used <= column {
+        let n = column - used;
+        if n <= 16 {
+            print(&blanks[..n]);
+        }
     }
+}
+
+// A number at the right of a column.
+pub fn print_right(column: usize, x: u64) {
+    print_blanks(column, width(x));
+    io::print_decimal(STDOUT_FILENO, x);
+}
+
+// A text and a number.
+pub fn print_with(s: &[u8], x: u64) {
+    print(s);
+    io::print_decimal(STDOUT_FILENO, x);
+}
+
+pub fn print_refused(number: u32) {
+    print_with(b"refused ", number as u64);
+    print(b"\n");
 }

@@ -5,15 +5,16 @@ use borrow.Author.Needs.{needs}
 use Rattle.tour.proofs.text.print_blanks.Statement.{statement}
 use Rattle.tour.proofs.text.print_blanks.Tie as tie
 
-slice-aggregate-write-all : tie.Need-slice-aggregate-write-all
-slice-aggregate-write-all c = simp length-take (omega arith)
+slice-aggregate-print : tie.Need-slice-aggregate-print
+slice-aggregate-print c = simp length-take (omega arith)
 
 pub print-blanks-spec : {M : Type 1} → statement M
 print-blanks-spec =
     tie.close
     (tie.spec
     (λ c. search needs)
-    slice-aggregate-write-all
+    slice-aggregate-print
     (λ c κs. search needs)
+    (λ c. search needs)
     (λ c. search needs)
     (λ c. search needs))

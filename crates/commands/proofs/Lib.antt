@@ -1,0 +1,4 @@
+pub mod Bits
+pub mod Laws
+pub mod Starred
+pub mod Determined

@@ -1,0 +1,61 @@
+-- Document 01, "Frames" and refusals 1 and 3: what every encoder answers and leaves. A frame is its list of durations.
+use Prim.Native.Nat.{ℕ, zero, suc, _+_, _*_, _/_, _%_, _^_, _<_}
+use mathlib.Core.List.{List, [], _∷_, _++_}
+use mathlib.Core.Bool.{Bool, cond}
+use lib.Dec.{ltb, eqb}
+use lib.ListN.{length, drop}
+use Rattle.spans.specs.Spans.{rateTaken}
+use Rattle.frames.specs.declared.Encoded.{Encoded}
+use Rattle.frames.specs.declared.Encoded.the-variants.{Wrote, Refused, Short}
+
+-- "NEC and RC5 scale a length l as l × (rate div 1000) div 1000 above 1000 Hz, else l × rate div 1,000,000"
+abbrev pub scaledOf : ℕ → ℕ → ℕ
+scaledOf length rate = cond (ltb 1000 rate) (length * (rate / 1000) / 1000) (length * rate / 1000000)
+
+-- whether the bit at a place is set
+abbrev pub bitSet : ℕ → ℕ → Bool
+bitSet bits place = eqb (bits / 2 ^ place % 2) 1
+
+-- the two durations of a bit: a mark, then a short space for a zero or a long one for a one
+abbrev pub pairOf : ℕ → ℕ → ℕ → Bool → List ℕ
+pairOf mark short long set = mark ∷ cond set long short ∷ []
+
+-- the pairs of the next `left` bits from a place on, lowest first
+unfoldable pub pairsFrom : ℕ → ℕ → ℕ → ℕ → ℕ → ℕ → List ℕ
+pairsFrom mark short long bits zero place = []
+pairsFrom mark short long bits (suc left) place =
+    pairOf mark short long (bitSet bits place) ++ pairsFrom mark short long bits left (place + 1)
+
+-- refusal 3: "buffer shorter than the frame"
+abbrev pub tooShort : List ℕ → List ℕ → Bool
+tooShort lent frame = ltb (length lent) (length frame)
+
+-- the answer for a rate, a lent buffer and a frame: refusal 1; refusal 3 and "the length needed"; or the count written
+unfoldable pub encodedOf : ℕ → List ℕ → List ℕ → Encoded
+encodedOf rate lent frame =
+    cond (rateTaken rate) (cond (tooShort lent frame) (Short (length frame)) (Wrote (length frame))) (Refused 1)
+
+-- "places past the frame keep their contents"
+abbrev pub onto : List ℕ → List ℕ → List ℕ
+onto frame lent = frame ++ drop (length frame) lent
+
+-- what the lent buffer holds at exit: "buffer untouched" where refused, else the frame
+unfoldable pub leftOf : ℕ → List ℕ → List ℕ → List ℕ
+leftOf rate lent frame = cond (rateTaken rate) (cond (tooShort lent frame) lent (onto frame lent)) lent
+
+-- document 01's number of an answer; 0 where nothing is refused
+abbrev pub encodedNumber : Encoded → ℕ
+encodedNumber (Wrote count) = 0
+encodedNumber (Refused number) = number
+encodedNumber (Short needed) = 3
+
+-- the frame's length that an answer carries: the count written, or the length needed; refusals 1 and 2 carry none
+abbrev pub encodedLength : Encoded → ℕ
+encodedLength (Wrote count) = count
+encodedLength (Refused number) = 0
+encodedLength (Short needed) = needed
+
+-- every duration of a frame fits 32 bits
+pub data Fit : List ℕ → Type 0 where
+  none : Fit []
+  more : {duration : ℕ} {durations : List ℕ} → duration < 2 ^ 32 → Fit durations → Fit (duration ∷ durations)

@@ -1,0 +1,2 @@
+// NEC.
+pub mod encoder;

@@ -1,0 +1,2 @@
+// RC5.
+pub mod encoder;

@@ -1,0 +1,2 @@
+// RC6.
+pub mod encoder;
