@@ -1,5 +1,6 @@
 //! The expected answer to each call: the crate's where its spans are document 01's,
-//! else document 01's. The answer to an encode call is in encode.rs.
+//! else document 01's. The answer to an encode call is in encode.rs, those to the calls on slots
+//! are in slots.rs.
 
 use std::fmt;
 use std::io::{self, BufRead, Write};
@@ -8,9 +9,10 @@ use crate::calls::Call;
 use crate::document::{self, Protocol, Spans};
 use crate::encode;
 use crate::oracle;
+use crate::slots::Slots;
 
 /// Who gave an answer.
-#[derive(Clone, Copy)]
+#[derive(Clone, Copy, PartialEq)]
 pub enum Source {
     Crate,
     /// The crate's spans differ at that rate.
@@ -19,13 +21,25 @@ pub enum Source {
     AboveCrate,
     /// The crate's encoders are not built at that rate.
     NotBuilt,
+    /// A sum of saved and new has passed 32 bits since `open`: the crate's has gone round.
+    AfterSum,
     Refused,
+    /// The slot holds no decoder.
+    NotOpen,
     NotUnderstood,
 }
 
+/// Those whose answer is document 01's alone.
+const DOCUMENT: [Source; 4] = [
+    Source::OtherSpans,
+    Source::AboveCrate,
+    Source::NotBuilt,
+    Source::AfterSum,
+];
+
 /// How many answers each source gave, in the order of `Source`.
 #[derive(Default)]
-pub struct Counts([u64; 6]);
+pub struct Counts([u64; 8]);
 
 impl Counts {
     pub fn add(&mut self, source: Source) {
@@ -34,6 +48,10 @@ impl Counts {
 
     pub fn of(&self, source: Source) -> u64 {
         self.0[source as usize]
+    }
+
+    pub fn by_document(&self) -> u64 {
+        DOCUMENT.iter().map(|&source| self.of(source)).sum()
     }
 
     pub fn all(&self) -> u64 {
@@ -50,19 +68,27 @@ impl Counts {
 
 impl fmt::Display for Counts {
     fn fmt(&self, f: &mut fmt::Formatter) -> fmt::Result {
-        let [by_crate, other_spans, above_crate, not_built, refused, not_understood] = self.0;
+        let [by_crate, other_spans, above_crate, not_built, after_sum, rest @ ..] = self.0;
+        let [refused, not_open, not_understood] = rest;
         write!(
             f,
             "answered by the crate {}, by document 01 where the crate's spans differ {}, \
              by document 01 above 32 bits {}, by document 01 at a rate that is not built {}, \
-             refused {}, not understood {}",
-            by_crate, other_spans, above_crate, not_built, refused, not_understood
+             by document 01 after a sum above 32 bits {}, refused {}, not open {}, not understood {}",
+            by_crate,
+            other_spans,
+            above_crate,
+            not_built,
+            after_sum,
+            refused,
+            not_open,
+            not_understood
         )
     }
 }
 
 /// Adds the answer to `text`.
-pub fn answer(call: &Call, text: &mut Vec<u8>) -> Source {
+pub fn answer(call: &Call, slots: &mut Slots, text: &mut Vec<u8>) -> Source {
     let told = match *call {
         Call::Spans { protocol, rate } => spans(protocol, rate),
         Call::Lookup {
@@ -71,6 +97,12 @@ pub fn answer(call: &Call, text: &mut Vec<u8>) -> Source {
             duration,
         } => lookup(protocol, rate, duration),
         Call::Encode(ref call) => return encode::answer(call, text),
+        Call::Open {
+            slot,
+            protocol,
+            rate,
+        } => return slots.open(slot, protocol, rate, text),
+        Call::Ask { slot, ref ask } => return slots.answer(slot, ask, text),
     };
     let (shown, source) =
         told.unwrap_or_else(|refusal| (format!("refused {}", refusal), Source::Refused));
@@ -79,9 +111,9 @@ pub fn answer(call: &Call, text: &mut Vec<u8>) -> Source {
 }
 
 /// Adds the answer to a line without its newline.
-fn answer_line(line: &[u8], text: &mut Vec<u8>) -> Source {
+fn answer_line(line: &[u8], slots: &mut Slots, text: &mut Vec<u8>) -> Source {
     match Call::parse(line) {
-        Some(call) => answer(&call, text),
+        Some(call) => answer(&call, slots, text),
         None => {
             text.extend_from_slice(b"not understood");
             Source::NotUnderstood
@@ -142,13 +174,14 @@ pub fn show_place(place: Option<usize>, before: &str) -> String {
 /// Answers each line of `calls`; the last may lack its newline.
 pub fn answer_all(mut calls: impl BufRead, mut answers: impl Write) -> io::Result<Counts> {
     let mut counts = Counts::default();
+    let mut slots = Slots::default();
     let mut line = Vec::new();
     let mut text = Vec::new();
     while calls.read_until(b'\n', &mut line)? > 0 {
         if line.last() == Some(&b'\n') {
             line.pop();
         }
-        counts.add(answer_line(&line, &mut text));
+        counts.add(answer_line(&line, &mut slots, &mut text));
         text.push(b'\n');
         answers.write_all(&text)?;
         line.clear();

@@ -17,6 +17,35 @@ pub enum Call {
     },
     /// The durations of a frame, in a lent buffer.
     Encode(Encode),
+    /// A fresh decoder in a slot.
+    Open {
+        slot: usize,
+        protocol: u32,
+        rate: u32,
+    },
+    /// What is asked of the decoder in a slot.
+    Ask { slot: usize, ask: Ask },
+}
+
+/// The slots are 0 to 7.
+pub const SLOTS: usize = 8;
+
+pub enum Ask {
+    /// The status after an edge.
+    Event(Edge),
+    /// What event_total reports.
+    Total(Edge),
+    /// What event, command and event_total would answer.
+    Edge(Edge),
+    Command,
+    Reset,
+}
+
+/// An edge, and the time since the one before.
+#[derive(Clone, Copy)]
+pub struct Edge {
+    pub rising: bool,
+    pub duration: u32,
 }
 
 /// The buffer has `room` places, and place i holds 4,000,000,000 + i before the call.
@@ -42,7 +71,15 @@ impl Call {
                 duration: words.number()?,
             },
             b"encode" => Call::Encode(words.encode()?),
-            _ => return None,
+            b"open" => Call::Open {
+                slot: words.number_up_to(SLOTS - 1)?,
+                protocol: words.number()?,
+                rate: words.number()?,
+            },
+            name => Call::Ask {
+                slot: words.number_up_to(SLOTS - 1)?,
+                ask: words.ask(name)?,
+            },
         };
         match words.next() {
             None => Some(call),
@@ -61,7 +98,25 @@ impl fmt::Display for Call {
                 duration,
             } => write!(f, "lookup {} {} {}", protocol, rate, duration),
             Call::Encode(call) => write!(f, "encode {}", call),
+            Call::Open {
+                slot,
+                protocol,
+                rate,
+            } => write!(f, "open {} {} {}", slot, protocol, rate),
+            Call::Ask { slot, ask } => match ask {
+                Ask::Event(edge) => write!(f, "event {} {}", slot, edge),
+                Ask::Total(edge) => write!(f, "total {} {}", slot, edge),
+                Ask::Edge(edge) => write!(f, "edge {} {}", slot, edge),
+                Ask::Command => write!(f, "command {}", slot),
+                Ask::Reset => write!(f, "reset {}", slot),
+            },
         }
+    }
+}
+
+impl fmt::Display for Edge {
+    fn fmt(&self, f: &mut fmt::Formatter) -> fmt::Result {
+        write!(f, "{} {}", u8::from(self.rising), self.duration)
     }
 }
 
@@ -97,6 +152,25 @@ impl<'a, I: Iterator<Item = &'a [u8]>> Words<I> {
             rate: self.number()?,
             command: self.command()?,
             room: self.number_up_to(ROOM)?,
+        })
+    }
+
+    /// The rest of a call of that name on a slot.
+    fn ask(&mut self, name: &[u8]) -> Option<Ask> {
+        Some(match name {
+            b"event" => Ask::Event(self.edge()?),
+            b"total" => Ask::Total(self.edge()?),
+            b"edge" => Ask::Edge(self.edge()?),
+            b"command" => Ask::Command,
+            b"reset" => Ask::Reset,
+            _ => return None,
+        })
+    }
+
+    fn edge(&mut self) -> Option<Edge> {
+        Some(Edge {
+            rising: self.number_up_to(1)? == 1,
+            duration: self.number()?,
         })
     }
 

@@ -53,6 +53,11 @@ impl Protocol {
         self as usize
     }
 
+    /// Whether a falling edge is saved and looked up with the rising one.
+    pub fn saves(self) -> bool {
+        matches!(self, Protocol::Nec | Protocol::Sbp | Protocol::Denon)
+    }
+
     pub fn name(self) -> &'static str {
         ["NEC", "RC5", "RC6", "SBP", "Denon"][self.index()]
     }
@@ -83,8 +88,12 @@ pub fn admit_rate(rate: u32) -> Result<(), u32> {
     Ok(())
 }
 
-fn span(length: u64, percent: u64, rate: u32) -> Span {
-    let base = length * u64::from(rate) / 1_000_000;
+/// The middle of a span.
+pub fn base(protocol: Protocol, place: usize, rate: u32) -> u64 {
+    LENGTHS[protocol.index()][place] * u64::from(rate) / 1_000_000
+}
+
+fn span(base: u64, percent: u64) -> Span {
     let margin = base * percent / 100;
     Span {
         low: base - margin,
@@ -94,11 +103,10 @@ fn span(length: u64, percent: u64, rate: u32) -> Span {
 
 /// The eight spans of a protocol at a rate.
 pub fn spans(protocol: Protocol, rate: u32) -> Spans {
-    let lengths = &LENGTHS[protocol.index()];
     let percents = &PERCENTS[protocol.index()];
     let mut spans = Spans::default();
     for (place, kept) in spans.iter_mut().enumerate() {
-        *kept = span(lengths[place], percents[place], rate);
+        *kept = span(base(protocol, place, rate), percents[place]);
     }
     spans
 }

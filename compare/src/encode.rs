@@ -5,6 +5,7 @@ use crate::answers::Source;
 use crate::calls::Encode;
 use crate::encoders;
 use crate::frames::{self, Command, Frame, Kind};
+use crate::text::push;
 
 /// Adds the answer to `text`.
 pub fn answer(call: &Encode, text: &mut Vec<u8>) -> Source {
@@ -53,21 +54,4 @@ pub fn expected_frame(kind: Kind, rate: u32, command: Command) -> (Frame, Source
         }
         None => (exact, Source::NotBuilt),
     }
-}
-
-/// Adds a text and a number: faster than `write!`, and there are millions.
-fn push(text: &mut Vec<u8>, before: &str, number: u64) {
-    let mut digits = [0; 20];
-    let mut first = digits.len();
-    let mut rest = number;
-    loop {
-        first -= 1;
-        digits[first] = b'0' + (rest % 10) as u8;
-        rest /= 10;
-        if rest == 0 {
-            break;
-        }
-    }
-    text.extend_from_slice(before.as_bytes());
-    text.extend_from_slice(&digits[first..]);
 }

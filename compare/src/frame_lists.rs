@@ -5,6 +5,7 @@ use crate::document::LAST_RATE;
 use crate::encoders::BUILT;
 use crate::frames::{self, Command, Kind, KINDS, ROOM};
 use crate::lists::Calls;
+use crate::random::Random;
 
 const MHZ: u32 = 1_000_000;
 
@@ -28,7 +29,7 @@ pub fn encode_call(kind: Kind, rate: u32, command: Command, room: usize) -> Call
 }
 
 /// The command whose fields are these 25 bits: from the highest toggle, start, address, command.
-fn command_of(bits: u32) -> Command {
+pub fn command_of(bits: u32) -> Command {
     let [toggle, start, address, command] = bits.to_be_bytes();
     Command {
         address,
@@ -76,22 +77,7 @@ pub fn any_rate_part() -> Calls {
     }))
 }
 
-/// Pseudo-random numbers from a seed: a counter, stirred (splitmix64).
-struct Random(u64);
-
 impl Random {
-    fn next(&mut self) -> u64 {
-        self.0 = self.0.wrapping_add(0x9E37_79B9_7F4A_7C15);
-        let mut stirred = self.0;
-        stirred = (stirred ^ stirred >> 30).wrapping_mul(0xBF58_476D_1CE4_E5B9);
-        stirred = (stirred ^ stirred >> 27).wrapping_mul(0x94D0_49BB_1331_11EB);
-        stirred ^ stirred >> 31
-    }
-
-    fn below(&mut self, bound: u32) -> u32 {
-        (self.next() % u64::from(bound)) as u32
-    }
-
     fn encode_call(&mut self, rate: u32) -> Call {
         let kind = KINDS[self.below(3) as usize];
         let command = command_of(self.below(1 << 25));

@@ -8,18 +8,29 @@ use std::thread;
 use crate::answers::{answer, expected_spans, Counts, Source};
 use crate::calls::Call;
 use crate::document::{Protocol, PROTOCOLS};
-use crate::lists::{Part, RATES};
+use crate::lists::{Calls, Part, RATES};
+use crate::slots::{Reported, Slots};
 
 /// The answers to many calls fit it: fewer turns between us and the program.
 const BUFFER: usize = 1 << 16;
 
-/// The parts that are run.
-pub type Parts = &'static [Part];
+/// The parts that are run, and how many times longer those of edges are.
+#[derive(Clone, Copy)]
+pub struct Choice {
+    pub parts: &'static [Part],
+    pub times: u32,
+}
+
+/// Who answered the calls of a part, and what was reported there.
+struct Tally {
+    counts: Counts,
+    reported: Reported,
+}
 
 /// Whether the program gives every answer; prints the counts, or what is wrong.
 pub fn run(
     out: &mut impl Write,
-    parts: Parts,
+    choice: Choice,
     program: &OsString,
     arguments: &[OsString],
 ) -> io::Result<bool> {
@@ -28,21 +39,21 @@ pub fn run(
         .stdin(Stdio::piped())
         .stdout(Stdio::piped())
         .spawn()?;
-    let conversed = converse(parts, child);
+    let conversed = converse(choice, child);
     match &conversed {
-        Ok(counts) => print_counts(out, parts, counts)?,
+        Ok(tallies) => print_counts(out, choice, tallies)?,
         Err(wrong) => writeln!(out, "{}", wrong)?,
     }
     Ok(conversed.is_ok())
 }
 
-/// Writes and compares at once; the counts of each part, or what is wrong.
-fn converse(parts: Parts, mut child: Child) -> Result<Vec<Counts>, String> {
+/// Writes and compares at once; the tally of each part, or what is wrong.
+fn converse(choice: Choice, mut child: Child) -> Result<Vec<Tally>, String> {
     let input = child.stdin.take().expect("the program's input is a pipe");
     let output = child.stdout.take().expect("the program's output is a pipe");
     let writer =
-        thread::spawn(move || write_calls(&mut BufWriter::with_capacity(BUFFER, input), parts));
-    let compared = compare_answers(parts, &mut BufReader::with_capacity(BUFFER, output));
+        thread::spawn(move || write_calls(&mut BufWriter::with_capacity(BUFFER, input), choice));
+    let compared = compare_answers(choice, &mut BufReader::with_capacity(BUFFER, output));
     if compared.is_err() {
         // The writer may wait for a reader for ever: it ends with us.
         let _ = child.kill();
@@ -62,18 +73,23 @@ fn converse(parts: Parts, mut child: Child) -> Result<Vec<Counts>, String> {
 }
 
 /// Writes every call of the parts.
-pub fn write_calls(to: &mut impl Write, parts: Parts) -> io::Result<()> {
-    for call in parts.iter().flat_map(|part| (part.calls)()) {
+pub fn write_calls(to: &mut impl Write, choice: Choice) -> io::Result<()> {
+    let Choice { parts, times } = choice;
+    for call in parts.iter().flat_map(|part| part.calls(times)) {
         writeln!(to, "{}", call)?;
     }
     to.flush()
 }
 
-fn compare_answers(parts: Parts, answers: &mut impl BufRead) -> Result<Vec<Counts>, String> {
+fn compare_answers(choice: Choice, answers: &mut impl BufRead) -> Result<Vec<Tally>, String> {
     let mut all = Vec::new();
+    let mut slots = Slots::default();
     let mut number = 0;
-    for part in parts {
-        all.push(compare_part(part, answers, &mut number)?);
+    for part in choice.parts {
+        let calls = part.calls(choice.times);
+        let counts = compare_part(calls, &mut slots, answers, &mut number)?;
+        let reported = slots.take_reported();
+        all.push(Tally { counts, reported });
     }
     let mut more = Vec::new();
     read_line(answers, &mut more)?;
@@ -89,17 +105,18 @@ fn compare_answers(parts: Parts, answers: &mut impl BufRead) -> Result<Vec<Count
 
 /// `number` is that of the line before, and then of the part's last.
 fn compare_part(
-    part: &Part,
+    calls: Calls,
+    slots: &mut Slots,
     answers: &mut impl BufRead,
     number: &mut u64,
 ) -> Result<Counts, String> {
     let mut counts = Counts::default();
     let mut expected = Vec::new();
     let mut actual = Vec::new();
-    for call in (part.calls)() {
+    for call in calls {
         *number += 1;
         expected.clear();
-        counts.add(answer(&call, &mut expected));
+        counts.add(answer(&call, slots, &mut expected));
         expected.push(b'\n');
         read_line(answers, &mut actual)?;
         if actual != expected {
@@ -136,27 +153,34 @@ fn show(line: &[u8]) -> String {
     }
 }
 
-fn print_counts(out: &mut impl Write, parts: Parts, counts: &[Counts]) -> io::Result<()> {
-    let all = counts.iter().fold(Counts::default(), Counts::join);
+fn print_counts(out: &mut impl Write, choice: Choice, tallies: &[Tally]) -> io::Result<()> {
+    let counts = tallies.iter().map(|tally| &tally.counts);
+    let all = counts.fold(Counts::default(), Counts::join);
     writeln!(out, "calls, each answered as expected: {}", all.all())?;
     writeln!(out, "{}", all)?;
-    for (part, counts) in parts.iter().zip(counts) {
-        let (calls, by_crate) = (counts.all(), counts.of(Source::Crate));
-        let refused = counts.of(Source::Refused);
-        writeln!(
-            out,
-            "part {:8}{:>8}: by the crate {}, by document 01 {}, refused {}",
-            part.name,
-            calls,
-            by_crate,
-            calls - by_crate - refused,
-            refused
-        )?;
+    for (part, tally) in choice.parts.iter().zip(tallies) {
+        print_part(out, part, tally)?;
     }
-    if parts.iter().any(|part| part.name == "spans") {
+    if choice.parts.iter().any(|part| part.name == "spans") {
         print_rates(out)?;
     }
     Ok(())
+}
+
+fn print_part(out: &mut impl Write, part: &Part, tally: &Tally) -> io::Result<()> {
+    let Tally { counts, reported } = tally;
+    writeln!(
+        out,
+        "part {:12}{:>8}: by the crate {}, by document 01 {}, refused {}, \
+         commands reported {}, errors reported {}",
+        part.name,
+        counts.all(),
+        counts.of(Source::Crate),
+        counts.by_document(),
+        counts.of(Source::Refused),
+        reported.commands,
+        reported.errors
+    )
 }
 
 fn print_rates(out: &mut impl Write) -> io::Result<()> {

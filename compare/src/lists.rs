@@ -4,6 +4,7 @@ use std::collections::BTreeSet;
 
 use crate::calls::Call;
 use crate::document::{self, Protocol, PROTOCOLS};
+use crate::edge_lists;
 use crate::frame_lists;
 
 pub type Calls = Box<dyn Iterator<Item = Call> + Send>;
@@ -11,21 +12,48 @@ pub type Calls = Box<dyn Iterator<Item = Call> + Send>;
 /// A part of the large run. It makes the same calls each time.
 pub struct Part {
     pub name: &'static str,
-    pub calls: fn() -> Calls,
+    make: Make,
+}
+
+enum Make {
+    /// Always of the same length.
+    Fixed(fn() -> Calls),
+    /// So many times longer.
+    Longer(fn(u32) -> Calls),
+}
+
+impl Part {
+    pub fn calls(&self, times: u32) -> Calls {
+        match self.make {
+            Make::Fixed(calls) => calls(),
+            Make::Longer(calls) => calls(times),
+        }
+    }
 }
 
 /// The parts of the large run, in their order.
-pub static PARTS: [Part; 6] = [
+pub static PARTS: [Part; 11] = [
     part("spans", spans_part),
     part("nec", frame_lists::nec_part),
     part("rc5", frame_lists::rc5_part),
     part("rc6", frame_lists::rc6_part),
     part("mixed", frame_lists::mixed_part),
     part("rates", frame_lists::any_rate_part),
+    edges_part("nec-edges", edge_lists::nec_part),
+    edges_part("rc5-edges", edge_lists::rc5_part),
+    edges_part("rc6-edges", edge_lists::rc6_part),
+    edges_part("sbp-edges", edge_lists::sbp_part),
+    edges_part("denon-edges", edge_lists::denon_part),
 ];
 
 const fn part(name: &'static str, calls: fn() -> Calls) -> Part {
-    Part { name, calls }
+    let make = Make::Fixed(calls);
+    Part { name, make }
+}
+
+const fn edges_part(name: &'static str, calls: fn(u32) -> Calls) -> Part {
+    let make = Make::Longer(calls);
+    Part { name, make }
 }
 
 /// The part of that name alone.

@@ -3,17 +3,32 @@
 
 mod answers;
 mod calls;
+mod decoders;
 mod document;
+mod edge_kinds;
+mod edge_lists;
 mod encode;
 mod encoders;
 mod frame_lists;
 mod frames;
 mod large;
 mod lists;
+mod model;
 mod oracle;
+mod pulse_frames;
+mod random;
 mod rates;
 mod recorded;
 mod recorded_frames;
+mod recorded_pulses;
+mod recorded_runs;
+mod recorded_scenes;
+mod recorded_slots;
+mod recorded_steps;
+mod reports;
+mod scene;
+mod slots;
+mod text;
 mod tour;
 
 use std::env;
@@ -21,14 +36,17 @@ use std::ffi::OsString;
 use std::io::{self, BufWriter, Write};
 use std::process::ExitCode;
 
-use crate::large::Parts;
+use crate::large::Choice;
 
 const USAGE: &str = "usage:
   compare answers                    the expected answers to the calls on stdin
   compare recorded                   the calls of the recorded test
-  compare calls [--part NAME]        the calls of the large run
-  compare large [--part NAME] PROGRAM [ARGS..]
-                                     the large run against a program
+  compare scenes                     where its scenes stand, by the wrong that each would show
+  compare calls [--part NAME] [--times N]
+                                     the calls of the large run
+  compare large [--part NAME] [--times N] PROGRAM [ARGS..]
+                                     the large run against a program; the parts of edges
+                                     are made N times longer
   compare rates                      where the crate's spans are ours, over every rate
   compare tour WORDS..               what the program tour prints
 the parts of the large run:";
@@ -58,12 +76,15 @@ fn run(words: &[OsString]) -> io::Result<Option<bool>> {
     let held = match (name.unwrap_or(""), rest) {
         ("answers", []) => answer_stdin(out).map(Some),
         ("recorded", []) => recorded::write(out).map(|()| Some(true)),
-        ("calls", choice) => match choose_parts(choice) {
-            Some((parts, [])) => large::write_calls(out, parts).map(|()| Some(true)),
+        ("scenes", []) => recorded::write_scenes(out).map(|()| Some(true)),
+        ("calls", words) => match choose(words) {
+            Some((choice, [])) => large::write_calls(out, choice).map(|()| Some(true)),
             _ => Ok(None),
         },
-        ("large", choice) => match choose_parts(choice) {
-            Some((parts, [program, rest @ ..])) => large::run(out, parts, program, rest).map(Some),
+        ("large", words) => match choose(words) {
+            Some((choice, [program, rest @ ..])) => {
+                large::run(out, choice, program, rest).map(Some)
+            }
             _ => Ok(None),
         },
         ("rates", []) => rates::run(out).map(Some),
@@ -74,14 +95,25 @@ fn run(words: &[OsString]) -> io::Result<Option<bool>> {
     held
 }
 
-/// All parts, or the one that the words name, and the words after; `None` where it is unknown.
-fn choose_parts(words: &[OsString]) -> Option<(Parts, &[OsString])> {
-    match words {
+/// All parts, or the one that the words name, and how much longer those of edges are; and the
+/// words after. `None` where the part is unknown or the number is none.
+fn choose(words: &[OsString]) -> Option<(Choice, &[OsString])> {
+    let (parts, words) = match words {
         [option, name, rest @ ..] if option == "--part" => {
-            Some((lists::part_named(name.to_str()?)?, rest))
+            (lists::part_named(name.to_str()?)?, rest)
         }
-        _ => Some((&lists::PARTS, words)),
-    }
+        _ => (&lists::PARTS[..], words),
+    };
+    let (times, words) = match words {
+        [option, times, rest @ ..] if option == "--times" => (number(times)?, rest),
+        _ => (1, words),
+    };
+    let times = u32::try_from(times).ok().filter(|&times| times > 0)?;
+    Some((Choice { parts, times }, words))
+}
+
+fn number(word: &OsString) -> Option<u64> {
+    calls::number(word.to_str()?.as_bytes())
 }
 
 fn answer_stdin(out: &mut impl Write) -> io::Result<bool> {

@@ -7,6 +7,7 @@ use crate::document::{Protocol, LAST_RATE, PROTOCOLS};
 use crate::lists::{lookup_call, lookups_at_ends, spans_call};
 use crate::rates::SMALLEST_OTHER;
 use crate::recorded_frames;
+use crate::recorded_scenes;
 
 const MHZ: u32 = 1_000_000;
 
@@ -25,7 +26,27 @@ pub fn write(out: &mut impl Write) -> io::Result<()> {
     for line in leading_zeros() {
         writeln!(out, "{}", line)?;
     }
-    write!(out, "lookup 5 1000000 5000")
+    write!(out, "lookup 5 1000000 5000")?;
+    for (_, scene) in recorded_scenes::scenes() {
+        for line in scene.lines {
+            out.write_all(b"\n")?;
+            out.write_all(&line)?;
+        }
+    }
+    Ok(())
+}
+
+/// Prints where the scenes stand in the list: the first line of each, how many it has, its name.
+pub fn write_scenes(out: &mut impl Write) -> io::Result<()> {
+    let before = understood().len() + not_understood().len() + leading_zeros().len();
+    // Line numbers begin at 1, and one more call stands before the scenes.
+    let mut first = before + 2;
+    for (name, scene) in recorded_scenes::scenes() {
+        let count = scene.lines.len();
+        writeln!(out, "{:5} {:3} {}", first, count, name)?;
+        first += count;
+    }
+    Ok(())
 }
 
 fn understood() -> Vec<Call> {

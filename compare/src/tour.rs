@@ -5,10 +5,11 @@ use std::ffi::OsString;
 use std::io::{self, Write};
 
 use crate::answers::{expected_place, expected_spans, show_place, show_span};
-use crate::calls::{self, Encode};
+use crate::calls::{self, Ask, Edge, Encode};
 use crate::document::{self, PLACES, PROTOCOLS};
 use crate::encode;
 use crate::frames::{self, Command, ROOM};
+use crate::slots::Slots;
 
 /// Prints it; `None` where the words are none of the tour's.
 pub fn run(out: &mut impl Write, words: &[OsString]) -> io::Result<Option<bool>> {
@@ -94,7 +95,8 @@ fn row(out: &mut impl Write, head: &str, cells: [String; 5]) -> io::Result<()> {
     writeln!(out)
 }
 
-/// A frame as a table, an edge a line: the odd ones rise.
+/// A frame as a table, an edge a line: the odd ones rise. Beside each, what a fresh decoder of the
+/// protocol reports.
 fn frame_table(out: &mut impl Write, call: &Encode) -> io::Result<()> {
     let kind = match frames::admit(call.protocol, call.rate) {
         Ok(kind) => kind,
@@ -102,10 +104,19 @@ fn frame_table(out: &mut impl Write, call: &Encode) -> io::Result<()> {
     };
     let (frame, _) = encode::expected_frame(kind, call.rate, call.command);
     writeln!(out, "{} durations, in ticks", frame.durations().len())?;
-    writeln!(out, " edge level     after")?;
-    for (place, duration) in frame.durations().iter().enumerate() {
-        let level = if place % 2 == 0 { "rise" } else { "fall" };
-        writeln!(out, "{:>5} {:>5}{:>10}", place + 1, level, duration)?;
+    writeln!(out, " edge level     after  reports")?;
+    let mut slots = Slots::default();
+    slots.open(0, call.protocol, call.rate, &mut Vec::new());
+    for (place, &duration) in frame.durations().iter().enumerate() {
+        let rising = place % 2 == 0;
+        let level = if rising { "rise" } else { "fall" };
+        write!(out, "{:>5} {:>5}{:>10}  ", place + 1, level, duration)?;
+        let mut report = Vec::new();
+        let duration = u32::try_from(duration).expect("a duration fits 32 bits");
+        let edge = Edge { rising, duration };
+        slots.answer(0, &Ask::Total(edge), &mut report);
+        report.push(b'\n');
+        out.write_all(&report)?;
     }
     Ok(())
 }

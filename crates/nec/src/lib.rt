@@ -1,2 +1,3 @@
-// NEC.
+// NEC: its frames, and the decoder.
+pub mod decoder;
 pub mod encoder;

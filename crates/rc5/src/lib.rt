@@ -1,2 +1,3 @@
-// RC5.
+// RC5: its frames, and the decoder.
+pub mod decoder;
 pub mod encoder;

@@ -1,2 +1,3 @@
-// RC6.
+// RC6: its frames, and the decoder.
+pub mod decoder;
 pub mod encoder;

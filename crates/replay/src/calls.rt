@@ -3,6 +3,11 @@ use crate::line::Line;
 use crate::line::is_call;
 use crate::line::is_u32;
 use crate::line::low_32;
+use crate::on_decoders;
+use crate::on_decoders::Done;
+use crate::on_decoders::Slot;
+use crate::on_decoders::Slots;
+use crate::on_decoders::is_edge;
 use crate::on_frames::is_encode;
 use crate::on_frames::put_encode_call;
 use crate::on_spans::put_lookup_call;
@@ -17,6 +22,24 @@ const LOOKUP: u64 = 0x6C6F6F6B7570;
 
 const ENCODE: u64 = 0x656E636F6465;
 
+const OPEN: u64 = 0x6F70656E;
+
+const EVENT: u64 = 0x6576656E74;
+
+const TOTAL: u64 = 0x746F74616C;
+
+const EDGE: u64 = 0x65646765;
+
+const COMMAND: u64 = 0x636F6D6D616E64;
+
+const RESET: u64 = 0x7265736574;
+
+pub struct AnswerEnd {
+    pub at: usize,
+    pub slots: Slots,
+}
+
+// The calls that need no decoder, and the lines that are no call.
 fn put_answer(text: &mut [u8], line: Line, n: &[u64; 8]) -> usize {
     let at = line.at;
     if is_call(line, SPANS, 2) && is_u32(n[0]) && is_u32(n[1]) {
@@ -31,7 +54,69 @@ fn put_answer(text: &mut [u8], line: Line, n: &[u64; 8]) -> usize {
     put_all(text, at, b"not understood")
 }
 
-pub fn answered(line: Line, numbers: &[u64; 8], text: &mut [u8]) -> usize {
-    let at = put_answer(text, line, numbers);
-    put(text, at, b'\n')
+// The line is a call on a slot, other than open.
+fn is_on_slot(line: Line, n: &[u64; 8]) -> bool {
+    let edges = is_call(line, EVENT, 3) || is_call(line, TOTAL, 3) || is_call(line, EDGE, 3);
+    let others = is_call(line, COMMAND, 1) || is_call(line, RESET, 1);
+    (edges && is_edge(n)) || (others && n[0] <= 7)
+}
+
+fn is_open(line: Line, n: &[u64; 8]) -> bool {
+    is_call(line, OPEN, 3) && n[0] <= 7 && is_u32(n[1]) && is_u32(n[2])
+}
+
+// A call on an open slot.
+fn on_open(text: &mut [u8], line: Line, n: &[u64; 8], slot: Slot) -> Done {
+    let at = line.at;
+    let decoder = slot.decoder;
+    let rising = n[1] == 1;
+    let duration = low_32(n[2]);
+    if line.name == EVENT {
+        return on_decoders::event(text, at, decoder, rising, duration);
+    }
+    if line.name == TOTAL {
+        return on_decoders::total(text, at, decoder, rising, duration);
+    }
+    if line.name == EDGE {
+        return on_decoders::edge(text, at, decoder, rising, duration);
+    }
+    if line.name == RESET {
+        return on_decoders::reset(text, at, decoder);
+    }
+    on_decoders::command(text, at, decoder)
+}
+
+fn on_slot(text: &mut [u8], line: Line, n: &[u64; 8], slot: Slot) -> Done {
+    if is_open(line, n) {
+        return on_decoders::open(text, line.at, slot, low_32(n[1]), low_32(n[2]));
+    }
+    if slot.is_open {
+        return on_open(text, line, n, slot);
+    }
+    let at = put_all(text, line.at, b"not open");
+    Done { at, slot }
+}
+
+fn answer(text: &mut [u8], line: Line, n: &[u64; 8], slots: Slots) -> AnswerEnd {
+    if is_open(line, n) || is_on_slot(line, n) {
+        let k = (n[0] % 8) as usize;
+        let slot = slots.slots[k];
+        let done = on_slot(text, line, n, slot);
+        let after = done.slot;
+        let mut s = slots;
+        s.slots[k] = after;
+        return AnswerEnd {
+            at: done.at,
+            slots: s,
+        };
+    }
+    let at = put_answer(text, line, n);
+    AnswerEnd { at, slots }
+}
+
+pub fn answered(text: &mut [u8], line: Line, n: &[u64; 8], slots: Slots) -> AnswerEnd {
+    let a = answer(text, line, n, slots);
+    let at = put(text, a.at, b'\n');
+    let s = a.slots;
+    AnswerEnd { at, slots: s }
 }

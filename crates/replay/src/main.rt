@@ -2,6 +2,7 @@
 // The calls and their answers are listed in README.md, "The call language".
 mod calls;
 mod line;
+mod on_decoders;
 mod on_frames;
 mod on_spans;
 mod out;
@@ -10,9 +11,16 @@ use calls::answered;
 use libc::STDIN_FILENO;
 use libc::STDOUT_FILENO;
 use line::Line;
+use on_decoders::Slots;
+
+// All that is kept between lines and between reads.
+pub struct State {
+    pub line: Line,
+    pub slots: Slots,
+}
 
 pub struct Turn {
-    pub line: Line,
+    pub state: State,
     pub more: bool,
 }
 
@@ -27,60 +35,74 @@ fn flushed(text: &[u8], at: usize, room: usize) -> usize {
     at
 }
 
-// One byte of input: the end of a line has its call answered.
-fn fed(line: Line, numbers: &mut [u64; 8], b: u8, text: &mut [u8]) -> Line {
-    if b == b'\n' {
-        let at = answered(line, numbers, text);
-        let at = flushed(text, at, 4096);
-        return line::fresh(at);
+// The end of a line: its call is answered, and the next line begins.
+fn line_ended(line: Line, slots: Slots, numbers: &[u64; 8], text: &mut [u8]) -> State {
+    let a = answered(text, line, numbers, slots);
+    let after = a.slots;
+    let at = flushed(text, a.at, 4096);
+    State {
+        line: line::fresh(at),
+        slots: after,
     }
-    line::fed(line, numbers, b)
 }
 
-fn fed_all(s: &[u8], line: Line, numbers: &mut [u64; 8], text: &mut [u8]) -> Line {
-    let mut l = line;
+fn fed_all(s: &[u8], state: State, numbers: &mut [u64; 8], text: &mut [u8]) -> State {
+    let mut line = state.line;
+    let mut slots = state.slots;
     let mut i = 0;
     while i < s.len() {
-        l = fed(l, numbers, s[i], text);
+        let b = s[i];
+        if b == b'\n' {
+            let next = line_ended(line, slots, numbers, text);
+            line = next.line;
+            slots = next.slots;
+        } else {
+            line = line::fed(line, numbers, b);
+        }
         i += 1;
     }
-    l
+    State { line, slots }
 }
 
-fn read_some(line: Line, numbers: &mut [u64; 8], text: &mut [u8]) -> Turn {
+fn read_some(state: State, numbers: &mut [u64; 8], text: &mut [u8]) -> Turn {
     let mut buf = io::large_buffer();
     let got = libc::read(STDIN_FILENO, &mut buf);
     if got <= 0 {
-        return Turn { line, more: false };
+        return Turn { state, more: false };
     }
     let n = io::count(got, &buf);
-    let l = fed_all(&buf[..n], line, numbers, text);
+    let after = fed_all(&buf[..n], state, numbers, text);
     Turn {
-        line: l,
+        state: after,
         more: true,
     }
 }
 
 // A proved loop has to end, and nothing says that the input does: so the turns are counted down.
-fn read_all(numbers: &mut [u64; 8], text: &mut [u8]) -> Line {
-    let mut line = line::fresh(0);
+fn read_all(numbers: &mut [u64; 8], text: &mut [u8]) -> State {
+    let mut state = State {
+        line: line::fresh(0),
+        slots: on_decoders::all_closed(),
+    };
     let mut turns = u64::MAX;
     while turns > 0 {
-        let t = read_some(line, numbers, text);
-        line = t.line;
+        let t = read_some(state, numbers, text);
+        state = t.state;
         if !t.more {
-            return line;
+            return state;
         }
         turns -= 1;
     }
-    line
+    state
 }
 
 // Answers a last line that lacks its newline, and writes out what is left.
-fn finish(line: Line, numbers: &[u64; 8], text: &mut [u8]) {
+fn finish(state: State, numbers: &[u64; 8], text: &mut [u8]) {
+    let line = state.line;
+    let slots = state.slots;
     if line.begun {
-        let at = answered(line, numbers, text);
-        flushed(text, at, 65537);
+        let a = answered(text, line, numbers, slots);
+        flushed(text, a.at, 65537);
     } else {
         flushed(text, line.at, 65537);
     }
@@ -89,6 +111,6 @@ fn finish(line: Line, numbers: &[u64; 8], text: &mut [u8]) {
 fn main() {
     let mut numbers = [0u64; 8];
     let mut text = io::large_buffer();
-    let line = read_all(&mut numbers, &mut text);
-    finish(line, &numbers, &mut text);
+    let state = read_all(&mut numbers, &mut text);
+    finish(state, &numbers, &mut text);
 }

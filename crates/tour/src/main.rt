@@ -1,5 +1,6 @@
 // What `./run` shows. `./run help` lists the words that it takes.
 mod frame_table;
+mod report_text;
 mod span_table;
 mod text;
 
@@ -24,7 +25,7 @@ fn help() {
     print(b"    the spans of all five protocols, and the place of a duration\n");
     print(b"./run frame PROTOCOL RATE ADDRESS COMMAND [START TOGGLE]\n");
     print(
-        b"    the frame of a command: 1 NEC, 2 RC5, 3 RC6; START is 3 and TOGGLE 0 where they are left out\n",
+        b"    the frame of a command, and what a decoder reports at each edge: 1 NEC, 2 RC5, 3 RC6;\n    START is 3 and TOGGLE 0 where they are left out\n",
     );
 }
 

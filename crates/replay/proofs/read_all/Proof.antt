@@ -6,10 +6,10 @@ use Rattle.replay.proofs.read_all.Statement.{statement}
 use Rattle.replay.proofs.read_all.Tie as tie
 
 abbrev Inv-loop : tie.InvT-loop
-Inv-loop numbers₀ text₀ line₀ turns₀ numbers text line turns = length text ≡ length text₀
+Inv-loop numbers₀ text₀ state₀ turns₀ numbers text state turns = length text ≡ length text₀
 
 abbrev μ-loop : tie.MeasureT-loop
-μ-loop numbers₀ text₀ line₀ turns₀ numbers text line turns = turns
+μ-loop numbers₀ text₀ state₀ turns₀ numbers text state turns = turns
 
 pub read-all-spec : {M : Type 1} → statement M
 read-all-spec =
@@ -17,6 +17,7 @@ read-all-spec =
     (tie.spec
     Inv-loop
     μ-loop
+    (λ c κs. search needs)
     (λ c κs. search needs)
     (λ c. search needs)
     (λ c κs. search needs)

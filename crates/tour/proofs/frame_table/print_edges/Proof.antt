@@ -5,10 +5,10 @@ use Rattle.tour.proofs.frame_table.print_edges.Statement.{statement}
 use Rattle.tour.proofs.frame_table.print_edges.Tie as tie
 
 abbrev Inv-loop : tie.InvT-loop
-Inv-loop places count i₀ i = Unit {0}
+Inv-loop places count decoder₀ i₀ decoder i = Unit {0}
 
 abbrev μ-loop : tie.MeasureT-loop
-μ-loop places count i₀ i = 100 - i
+μ-loop places count decoder₀ i₀ decoder i = 100 - i
 
 pub print-edges-spec : {M : Type 1} → statement M
 print-edges-spec =

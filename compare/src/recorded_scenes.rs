@@ -1,0 +1,76 @@
+//! The scenes of the recorded test: each begins with its `open` lines, and is named by the wrong
+//! that it would show.
+
+use crate::recorded_pulses::*;
+use crate::recorded_runs::*;
+use crate::recorded_slots::*;
+use crate::recorded_steps::*;
+use crate::scene::Scene;
+
+macro_rules! scenes {
+    ($($name:ident,)*) => {
+        /// The names and the scenes, in their order.
+        pub fn scenes() -> Vec<(&'static str, Scene)> {
+            vec![$((stringify!($name), scene_of($name)),)*]
+        }
+    };
+}
+
+scenes! {
+    // The first: the slots are still closed.
+    closed_slot_answers,
+    refused_open_empties_the_slot,
+    open_keeps_the_old_decoder,
+    wrong_line_is_taken,
+    slots_share_a_decoder,
+    protocols_share_a_slot,
+    rates_share_spans,
+    zero_is_no_duration,
+    last_duration_is_negative,
+    sum_goes_round,
+    sum_that_fits_is_cut,
+    levels_must_alternate,
+    reset_keeps_the_saved_duration,
+    reset_forgets_to_clear,
+    command_changes_the_state,
+    done_is_left,
+    error_is_left,
+    total_does_not_reset,
+    low_rate_reads_padding,
+    nec_frame_is_not_heard,
+    nec_reset_clears_bits,
+    nec_fresh_repeat_is_silent,
+    nec_sync_keeps_bits,
+    nec_span_end_is_excluded,
+    nec_bits_are_turned,
+    nec_checks_complements,
+    nec_pulse_out_of_place_is_taken,
+    sbp_frame_is_not_heard,
+    sbp_clears_the_saved_duration,
+    sbp_faults_are_exchanged,
+    sbp_keeps_its_four_bits,
+    denon_frame_is_not_heard,
+    denon_stores_bit_47,
+    denon_sync_clears_bits,
+    denon_reset_keeps_bits,
+    denon_bad_pulse_is_an_error,
+    rc5_frame_is_not_heard,
+    rc5_reaches_its_data_error,
+    rc5_bad_rise_is_lost,
+    rc5_frame_must_end,
+    rc5_low_rate_is_cut,
+    rc5_fields_are_exchanged,
+    rc6_frame_is_not_heard,
+    rc6_ends_with_its_last_duration,
+    rc6_forgets_its_toggle,
+    rc6_picks_the_nearest_span,
+    rc6_wrong_pulse_goes_on,
+    rc6_reaches_its_data_error,
+    rc6_checks_its_header,
+}
+
+fn scene_of(write: fn(&mut Scene)) -> Scene {
+    let mut scene = Scene::default();
+    write(&mut scene);
+    scene
+}

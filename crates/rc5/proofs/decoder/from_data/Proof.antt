@@ -1,0 +1,14 @@
+-- `rc5::decoder::from_data` meets its contract: each branch gives its test's value. Assumes nothing.
+use borrow.Author.Tests.{eq-eqb, ne-eqb}
+use borrow.Author.Needs.{needs}
+use Rattle.rc5.proofs.decoder.from_data.Statement.{statement}
+use Rattle.rc5.proofs.decoder.from_data.Tie as tie
+
+returns : tie.Need-returns
+returns c = simp (eq-eqb _ _ (c .before .before .if1 .taken), c .gathered .ensures, c .before .after-bit .ensures)
+
+returns-2 : tie.Need-returns-2
+returns-2 c = simp (ne-eqb _ _ (c .if1 .left))
+
+pub from-data-spec : {M : Type 1} → statement M
+from-data-spec = tie.close (tie.spec (λ c κs. search needs) (λ c κs. search needs) returns returns-2)

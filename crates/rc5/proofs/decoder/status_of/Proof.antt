@@ -1,0 +1,20 @@
+-- `rc5::decoder::status_of` meets its contract: each arm is a clause of the definition. Assumes nothing.
+use borrow.Author.Needs.{needs}
+use Rattle.rc5.proofs.decoder.status_of.Statement.{statement}
+use Rattle.rc5.proofs.decoder.status_of.Tie as tie
+
+returns-4 : tie.Need-returns-4
+returns-4 c = cc
+
+pub status-of-spec : {M : Type 1} → statement M
+status-of-spec =
+    tie.close
+    (tie.spec
+    (λ c. search needs)
+    (λ c. search needs)
+    (λ c. search needs)
+    (λ c. search needs)
+    (λ c. search needs)
+    (λ c. search needs)
+    (λ c. search needs)
+    returns-4)

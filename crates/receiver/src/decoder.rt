@@ -1,0 +1,304 @@
+// A decoder of any protocol, by its number. Each call is the protocol's own, over the memory that stands in the enum.
+use denon::decoder::DenonMemory;
+use nec::decoder::NecMemory;
+use rc5::decoder::Rc5Memory;
+use rc6::decoder::Rc6Memory;
+use reports::Report;
+use reports::Status;
+use sbp::decoder::SbpMemory;
+use spans::Answer;
+use spans::Spans;
+ghost use mathlib.Core.Path.{_≡_};
+ghost use Rattle.receiver.specs.Decoder.{pastEnd, freshOf, eventIn, commandOf, resetOf, totalIn, newAt, eventOf, commandIn, resetIn, eventTotal};
+
+pub enum Memory {
+    Nec(NecMemory),
+    Rc5(Rc5Memory),
+    Rc6(Rc6Memory),
+    Sbp(SbpMemory),
+    Denon(DenonMemory),
+}
+
+// One record of any protocol.
+pub struct Decoder {
+    pub spans: Spans,
+    pub memory: Memory,
+}
+
+// The answers: an enum cannot hold an array, so each stands beside the decoder or the memory.
+pub struct Made {
+    pub answer: Answer,
+    pub decoder: Decoder,
+}
+
+pub struct EventIn {
+    pub status: Status,
+    pub memory: Memory,
+}
+
+pub struct Event {
+    pub status: Status,
+    pub decoder: Decoder,
+}
+
+pub struct TotalIn {
+    pub report: Report,
+    pub memory: Memory,
+}
+
+pub struct Total {
+    pub report: Report,
+    pub decoder: Decoder,
+}
+
+// Refusal 4: the protocol's bit counter is past its end.
+pub fn past_end(memory: Memory) -> bool
+    ensures { λ r. ⌜ r ≡ pastEnd memory ⌝ }
+{
+    match memory {
+        Memory::Nec(m) => {
+            let state = m.state;
+            nec::decoder::past_end(state)
+        }
+        Memory::Rc5(m) => {
+            let state = m.state;
+            rc5::decoder::past_end(state)
+        }
+        Memory::Rc6(m) => {
+            let state = m.state;
+            rc6::decoder::past_end(state)
+        }
+        Memory::Sbp(m) => {
+            let state = m.state;
+            sbp::decoder::past_end(state)
+        }
+        Memory::Denon(m) => {
+            let state = m.state;
+            denon::decoder::past_end(state)
+        }
+    }
+}
+
+// What a new decoder of a protocol remembers; with a number that is refused, NEC's.
+fn fresh_of(protocol: u32) -> Memory
+    ensures { λ r. ⌜ r ≡ freshOf protocol ⌝ }
+{
+    match protocol {
+        2 => Memory::Rc5(rc5::decoder::fresh()),
+        3 => Memory::Rc6(rc6::decoder::fresh()),
+        4 => Memory::Sbp(sbp::decoder::fresh()),
+        5 => Memory::Denon(denon::decoder::fresh()),
+        _ => Memory::Nec(nec::decoder::fresh()),
+    }
+}
+
+pub fn event_in<'a>(
+    low: &'a [u32; 8],
+    high: &'a [u32; 8],
+    memory: Memory,
+    rising: bool,
+    duration: u32,
+) -> EventIn
+    ensures { λ r. ⌜ r ≡ eventIn (now (low .entry)) (now (high .entry)) memory rising duration ⌝ }
+{
+    match memory {
+        Memory::Nec(m) => {
+            let event = nec::decoder::event_in(low, high, m, rising, duration);
+            let status = event.status;
+            let after = event.memory;
+            EventIn {
+                status,
+                memory: Memory::Nec(after),
+            }
+        }
+        Memory::Rc5(m) => {
+            let event = rc5::decoder::event_in(low, high, m, rising, duration);
+            let status = event.status;
+            let after = event.memory;
+            EventIn {
+                status,
+                memory: Memory::Rc5(after),
+            }
+        }
+        Memory::Rc6(m) => {
+            let event = rc6::decoder::event_in(low, high, m, rising, duration);
+            let status = event.status;
+            let after = event.memory;
+            EventIn {
+                status,
+                memory: Memory::Rc6(after),
+            }
+        }
+        Memory::Sbp(m) => {
+            let event = sbp::decoder::event_in(low, high, m, rising, duration);
+            let status = event.status;
+            let after = event.memory;
+            EventIn {
+                status,
+                memory: Memory::Sbp(after),
+            }
+        }
+        Memory::Denon(m) => {
+            let event = denon::decoder::event_in(low, high, m, rising, duration);
+            let status = event.status;
+            let after = event.memory;
+            EventIn {
+                status,
+                memory: Memory::Denon(after),
+            }
+        }
+    }
+}
+
+pub fn command_of(memory: Memory) -> Report
+    ensures { λ r. ⌜ r ≡ commandOf memory ⌝ }
+{
+    match memory {
+        Memory::Nec(m) => nec::decoder::command_of(m),
+        Memory::Rc5(m) => rc5::decoder::command_of(m),
+        Memory::Rc6(m) => rc6::decoder::command_of(m),
+        Memory::Sbp(m) => sbp::decoder::command_of(m),
+        Memory::Denon(m) => denon::decoder::command_of(m),
+    }
+}
+
+pub fn reset_of(memory: Memory) -> Memory
+    ensures { λ r. ⌜ r ≡ resetOf memory ⌝ }
+{
+    match memory {
+        Memory::Nec(m) => Memory::Nec(nec::decoder::reset_of(m)),
+        Memory::Rc5(m) => Memory::Rc5(rc5::decoder::reset_of(m)),
+        Memory::Rc6(m) => Memory::Rc6(rc6::decoder::reset_of(m)),
+        Memory::Sbp(m) => Memory::Sbp(sbp::decoder::reset_of(m)),
+        Memory::Denon(m) => Memory::Denon(denon::decoder::reset_of(m)),
+    }
+}
+
+pub fn total_in<'a>(
+    low: &'a [u32; 8],
+    high: &'a [u32; 8],
+    memory: Memory,
+    rising: bool,
+    duration: u32,
+) -> TotalIn
+    ensures { λ r. ⌜ r ≡ totalIn (now (low .entry)) (now (high .entry)) memory rising duration ⌝ }
+{
+    match memory {
+        Memory::Nec(m) => {
+            let total = nec::decoder::total_in(low, high, m, rising, duration);
+            let report = total.report;
+            let after = total.memory;
+            TotalIn {
+                report,
+                memory: Memory::Nec(after),
+            }
+        }
+        Memory::Rc5(m) => {
+            let total = rc5::decoder::total_in(low, high, m, rising, duration);
+            let report = total.report;
+            let after = total.memory;
+            TotalIn {
+                report,
+                memory: Memory::Rc5(after),
+            }
+        }
+        Memory::Rc6(m) => {
+            let total = rc6::decoder::total_in(low, high, m, rising, duration);
+            let report = total.report;
+            let after = total.memory;
+            TotalIn {
+                report,
+                memory: Memory::Rc6(after),
+            }
+        }
+        Memory::Sbp(m) => {
+            let total = sbp::decoder::total_in(low, high, m, rising, duration);
+            let report = total.report;
+            let after = total.memory;
+            TotalIn {
+                report,
+                memory: Memory::Sbp(after),
+            }
+        }
+        Memory::Denon(m) => {
+            let total = denon::decoder::total_in(low, high, m, rising, duration);
+            let report = total.report;
+            let after = total.memory;
+            TotalIn {
+                report,
+                memory: Memory::Denon(after),
+            }
+        }
+    }
+}
+
+impl Decoder {
+    // Refusals: 2, then 1; the decoder then has the spans of the refused answer.
+    pub fn new(protocol: u32, rate: u32) -> Made
+        ensures { λ r. ⌜ r ≡ newAt protocol rate ⌝ }
+    {
+        let made = spans::spans_of(protocol, rate);
+        let answer = made.answer;
+        let spans = made.spans;
+        let memory = fresh_of(protocol);
+        Made {
+            answer,
+            decoder: Decoder { spans, memory },
+        }
+    }
+
+    // Refusal 4.
+    pub fn event(self, rising: bool, duration: u32) -> Event
+        ensures { λ r. ⌜ r ≡ eventOf self rising duration ⌝ }
+    {
+        let spans = self.spans;
+        let memory = self.memory;
+        let event = event_in(&spans.low, &spans.high, memory, rising, duration);
+        let status = event.status;
+        let after = event.memory;
+        Event {
+            status,
+            decoder: Decoder {
+                spans,
+                memory: after,
+            },
+        }
+    }
+
+    pub fn command(self) -> Report
+        ensures { λ r. ⌜ r ≡ commandIn self ⌝ }
+    {
+        let memory = self.memory;
+        command_of(memory)
+    }
+
+    pub fn reset(self) -> Decoder
+        ensures { λ r. ⌜ r ≡ resetIn self ⌝ }
+    {
+        let spans = self.spans;
+        let memory = self.memory;
+        let after = reset_of(memory);
+        Decoder {
+            spans,
+            memory: after,
+        }
+    }
+
+    // Refusal 4.
+    pub fn event_total(self, rising: bool, duration: u32) -> Total
+        ensures { λ r. ⌜ r ≡ eventTotal self rising duration ⌝ }
+    {
+        let spans = self.spans;
+        let memory = self.memory;
+        let total = total_in(&spans.low, &spans.high, memory, rising, duration);
+        let report = total.report;
+        let after = total.memory;
+        Total {
+            report,
+            decoder: Decoder {
+                spans,
+                memory: after,
+            },
+        }
+    }
+}

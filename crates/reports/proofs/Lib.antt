@@ -1,0 +1,4 @@
+pub mod Run
+pub mod Shift
+pub mod Either
+pub mod Determined

@@ -1,0 +1,2 @@
+// Document 01, SBP.
+pub mod decoder;
