@@ -1,0 +1,178 @@
+/*
+ * dorzhimu_seat.h: infrared frames and pulse lookup for seat firmware in C.
+ *
+ * Link with libseat.a, which `rt staticlib seat` writes to target/staticlib.
+ * What each call returns, stores and leaves is proved, for every number that it
+ * is given (crates/seat: src/lib.rt has the contracts, specs/Seat.antt their
+ * definitions). The refusal numbers are those of document 01, the project's
+ * scope paper.
+ *
+ * Sending a command, in five lines. `after(ticks, on)` waits for so many ticks
+ * and then switches the carrier:
+ *
+ *     uint32_t frame[SEAT_LONGEST];
+ *     size_t length;
+ *     if (seat_encode(SEAT_RC5, 1000000, 0, 12, 3, false, frame, SEAT_LONGEST, &length) == SEAT_DONE)
+ *         for (size_t i = 0; i < length; i++)
+ *             after(frame[i], i % 2 == 0);
+ *
+ * Reading a pulse, in five lines. For NEC, SBP and Denon a pulse is a mark and
+ * the space behind it; for RC5 and RC6 it is the time between two edges:
+ *
+ *     uint32_t place;
+ *     uint64_t total = (uint64_t)mark + space;
+ *     if (seat_lookup(SEAT_NEC, 1000000, total, &place) != SEAT_DONE || place == SEAT_NO_PLACE)
+ *         return not_a_pulse();
+ *     return pulse(place);
+ *
+ * WHAT THE CALLER OWES
+ *
+ * Numbers: nothing. Every value of every number is answered.
+ *
+ * Pointers:
+ *
+ *  - `frame` points to `room` places that may be written. They need hold
+ *    nothing before the call. `length` and `place` point to one number each.
+ *    All are aligned as their types ask, and none is null.
+ *  - What the pointers of one call point to does not overlap, and nobody else
+ *    uses it during the call.
+ *  - Room 0 is the one exception: `frame` may then be NULL. The proof speaks of
+ *    places and says nothing of NULL, but the compiled code compares `room`
+ *    with the length needed before it uses `frame`, and no frame has length 0.
+ *    seat_test/run makes that call.
+ *
+ * The machine: x86-64 with the System V calling convention, as the kit compiles
+ * for it. The code uses SSE2 registers and the red zone, the 128 bytes below the
+ * stack pointer. So it is not to be called where interrupts run on the same
+ * stack and overwrite them, nor where SSE2 registers are not saved.
+ *
+ * Both functions end, keep nothing between calls, have no data of their own,
+ * call no function of anyone's, and take less than 300 bytes of stack. They may
+ * be called from several threads at once.
+ */
+
+#ifndef DORZHIMU_SEAT_H
+#define DORZHIMU_SEAT_H
+
+#include <stdbool.h>
+#include <stddef.h>
+#include <stdint.h>
+
+#ifdef __cplusplus
+extern "C" {
+#endif
+
+/** \brief Protocol numbers. SBP and Denon are for lookup alone. */
+#define SEAT_NEC 1u
+#define SEAT_RC5 2u
+#define SEAT_RC6 3u
+#define SEAT_SBP 4u
+#define SEAT_DENON 5u
+
+/** \brief What a call returns: nothing is refused. */
+#define SEAT_DONE 0u
+
+/** \brief Refusal 1: the rate is 0 or above `SEAT_LAST_RATE`. */
+#define SEAT_REFUSED_RATE 1u
+
+/** \brief Refusal 2: the protocol is none that the call takes. */
+#define SEAT_REFUSED_PROTOCOL 2u
+
+/** \brief Refusal 3: the room is shorter than the frame. */
+#define SEAT_REFUSED_ROOM 3u
+
+/** \brief The highest rate that is taken, in ticks a second; the lowest is 1. */
+#define SEAT_LAST_RATE 9673349u
+
+/**
+ * \brief The places of the longest frame.
+ *
+ * NEC has 67 durations, RC5 14 to 27, RC6 26 to 44. That this room is always
+ * enough is proved (crates/seat/proofs/Room.antt).
+ */
+#define SEAT_LONGEST 67
+
+/** \brief The place that stands for none of the eight. */
+#define SEAT_NO_PLACE 8u
+
+/**
+ * \brief Write the frame of a command.
+ *
+ * A frame is a list of durations, in ticks of `rate`. Each is the time before
+ * an edge: the edge behind `frame[0]`, which is 0, rises, the next one falls,
+ * and so on. Where the length is odd, as it is for NEC, the last edge rises: the
+ * mark that it opens is not part of the frame, and the caller ends it.
+ *
+ * NEC takes `address` and `command`, RC6 these and `toggle`, RC5 all four fields;
+ * what a protocol does not take changes nothing. RC5 has an address of 5 bits, a
+ * command of 6, and `start` 3 (or 2). Larger ones are not refused: their high
+ * bits are joined by or to the fields above, and the highest are dropped.
+ *
+ * Refusals, in the order in which they are tested, and nothing else is refused:
+ *
+ *  - `SEAT_REFUSED_PROTOCOL` (2): `protocol` is not `SEAT_NEC`, `SEAT_RC5` or
+ *    `SEAT_RC6`. `*length` is 0.
+ *  - `SEAT_REFUSED_RATE` (1): `rate` is 0 or above `SEAT_LAST_RATE`. `*length`
+ *    is 0.
+ *  - `SEAT_REFUSED_ROOM` (3): `room` is less than the frame's length. `*length`
+ *    is the length needed. With room `SEAT_LONGEST` this does not happen.
+ *
+ * A refused call leaves the places of `frame` as they were. Where nothing is
+ * refused, `*length` is the number of durations written, and the places past
+ * them are as they were. `*length` is stored by every call.
+ *
+ * \param protocol   protocol number, `SEAT_NEC`, `SEAT_RC5` or `SEAT_RC6`.
+ * \param rate       ticks a second, 1 to `SEAT_LAST_RATE`.
+ * \param address    address of the command.
+ * \param command    number of the command.
+ * \param start      start bits (RC5 only).
+ * \param toggle     toggle bit (RC5 and RC6 only).
+ * \param frame      places that receive the durations.
+ * \param room       how many places `frame` has.
+ * \param length     receives the count written, the length needed, or 0.
+ * \return  `SEAT_DONE` (0), or the refusal number: 2, 1 or 3.
+ */
+uint32_t seat_encode(uint32_t protocol, uint32_t rate,
+	uint8_t address, uint8_t command, uint8_t start, bool toggle,
+	uint32_t *frame, size_t room, size_t *length);
+
+/**
+ * \brief Find the pulse that a duration is.
+ *
+ * Each protocol has up to six pulse lengths with a tolerance about each, its
+ * spans. The answer is the lowest place whose span holds the duration, both
+ * ends included:
+ *
+ *  - NEC: 0 sync, 1 repeat, 2 zero, 3 one.
+ *  - RC5: 0 and 1, for 1 and 2 ticks of 889 microseconds.
+ *  - RC6: 0 to 5, for 1 to 6 ticks of 444 microseconds.
+ *  - SBP: 0 sync, 1 pause, 2 zero, 3 one.
+ *  - Denon: 0 sync, 1 zero, 2 one.
+ *
+ * The places above those, up to 7, hold duration 0 and no other.
+ *
+ * The duration is 64 bits wide, so that the sum of two 32-bit durations is
+ * exact; above 32 bits no span holds it.
+ *
+ * Refusals, in the order in which they are tested, and nothing else is refused:
+ *
+ *  - `SEAT_REFUSED_PROTOCOL` (2): `protocol` is not 1 to 5.
+ *  - `SEAT_REFUSED_RATE` (1): `rate` is 0 or above `SEAT_LAST_RATE`.
+ *
+ * `*place` is stored by every call. With a refusal it is `SEAT_NO_PLACE`.
+ *
+ * Each call computes the eight spans anew, in 200 to 300 instructions.
+ *
+ * \param protocol   protocol number, `SEAT_NEC` to `SEAT_DENON`.
+ * \param rate       ticks a second, 1 to `SEAT_LAST_RATE`.
+ * \param duration   duration, or sum of two, in ticks of `rate`.
+ * \param place      receives the place, 0 to 7, or `SEAT_NO_PLACE` (8).
+ * \return  `SEAT_DONE` (0), or the refusal number: 2 or 1.
+ */
+uint32_t seat_lookup(uint32_t protocol, uint32_t rate, uint64_t duration, uint32_t *place);
+
+#ifdef __cplusplus
+}
+#endif
+
+#endif
