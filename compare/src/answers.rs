@@ -21,10 +21,11 @@ pub enum Source {
     AboveCrate,
     /// The crate's encoders are not built at that rate.
     NotBuilt,
-    /// A sum of saved and new has passed 32 bits since `open`: the crate's has gone round.
+    /// A sum of saved and new has passed 32 bits since the slot was opened: the crate's has gone
+    /// round.
     AfterSum,
     Refused,
-    /// The slot holds no decoder.
+    /// The slot holds nothing.
     NotOpen,
     NotUnderstood,
 }
@@ -103,6 +104,13 @@ pub fn answer(call: &Call, slots: &mut Slots, text: &mut Vec<u8>) -> Source {
             rate,
         } => return slots.open(slot, protocol, rate, text),
         Call::Ask { slot, ref ask } => return slots.answer(slot, ask, text),
+        Call::Polled {
+            slot,
+            protocol,
+            rate,
+        } => return slots.polled(slot, protocol, rate, text),
+        Call::Poll { slot, level, count } => return slots.poll(slot, level, count, text),
+        Call::Idle { slot, count } => return slots.idle(slot, count, text),
     };
     let (shown, source) =
         told.unwrap_or_else(|refusal| (format!("refused {}", refusal), Source::Refused));

@@ -1,5 +1,5 @@
 //! The call language: one call a line, a name and its numbers, separated by exactly one blank.
-//! A new call is a case of `Call`, a line in `parse` and in `fmt`, and its answer in answers.rs.
+//! A new call is a case of `Call`, a line in `Words::call` and in `fmt`, and its answer in answers.rs.
 
 use std::convert::TryFrom;
 use std::fmt;
@@ -25,10 +25,27 @@ pub enum Call {
     },
     /// What is asked of the decoder in a slot.
     Ask { slot: usize, ask: Ask },
+    /// A fresh polled receiver. These have slots of their own.
+    Polled {
+        slot: usize,
+        protocol: u32,
+        rate: u32,
+    },
+    /// So many polls with a level.
+    Poll {
+        slot: usize,
+        level: bool,
+        count: u32,
+    },
+    /// So many polls with the level that was seen last.
+    Idle { slot: usize, count: u32 },
 }
 
 /// The slots are 0 to 7.
 pub const SLOTS: usize = 8;
+
+/// The most polls of a `poll` call; it makes at least one.
+pub const POLLS: u32 = 1_000_000;
 
 pub enum Ask {
     /// The status after an edge.
@@ -60,27 +77,8 @@ impl Call {
     /// The call that a line without its newline holds; `None` where it is not understood.
     pub fn parse(line: &[u8]) -> Option<Call> {
         let mut words = Words(line.split(|&byte| byte == b' '));
-        let call = match words.next()? {
-            b"spans" => Call::Spans {
-                protocol: words.number()?,
-                rate: words.number()?,
-            },
-            b"lookup" => Call::Lookup {
-                protocol: words.number()?,
-                rate: words.number()?,
-                duration: words.number()?,
-            },
-            b"encode" => Call::Encode(words.encode()?),
-            b"open" => Call::Open {
-                slot: words.number_up_to(SLOTS - 1)?,
-                protocol: words.number()?,
-                rate: words.number()?,
-            },
-            name => Call::Ask {
-                slot: words.number_up_to(SLOTS - 1)?,
-                ask: words.ask(name)?,
-            },
-        };
+        let name = words.next()?;
+        let call = words.call(name)?;
         match words.next() {
             None => Some(call),
             Some(_) => None,
@@ -110,6 +108,15 @@ impl fmt::Display for Call {
                 Ask::Command => write!(f, "command {}", slot),
                 Ask::Reset => write!(f, "reset {}", slot),
             },
+            Call::Polled {
+                slot,
+                protocol,
+                rate,
+            } => write!(f, "polled {} {} {}", slot, protocol, rate),
+            Call::Poll { slot, level, count } => {
+                write!(f, "poll {} {} {}", slot, u8::from(*level), count)
+            }
+            Call::Idle { slot, count } => write!(f, "idle {} {}", slot, count),
         }
     }
 }
@@ -146,6 +153,45 @@ impl<'a, I: Iterator<Item = &'a [u8]>> Words<I> {
         self.number().filter(|&number| number <= last)
     }
 
+    /// The rest of a call of that name.
+    fn call(&mut self, name: &[u8]) -> Option<Call> {
+        Some(match name {
+            b"spans" => Call::Spans {
+                protocol: self.number()?,
+                rate: self.number()?,
+            },
+            b"lookup" => Call::Lookup {
+                protocol: self.number()?,
+                rate: self.number()?,
+                duration: self.number()?,
+            },
+            b"encode" => Call::Encode(self.encode()?),
+            b"open" => Call::Open {
+                slot: self.number_up_to(SLOTS - 1)?,
+                protocol: self.number()?,
+                rate: self.number()?,
+            },
+            b"polled" => Call::Polled {
+                slot: self.number_up_to(SLOTS - 1)?,
+                protocol: self.number()?,
+                rate: self.number()?,
+            },
+            b"poll" => Call::Poll {
+                slot: self.number_up_to(SLOTS - 1)?,
+                level: self.number_up_to(1)? == 1,
+                count: self.polls()?,
+            },
+            b"idle" => Call::Idle {
+                slot: self.number_up_to(SLOTS - 1)?,
+                count: self.number()?,
+            },
+            name => Call::Ask {
+                slot: self.number_up_to(SLOTS - 1)?,
+                ask: self.ask(name)?,
+            },
+        })
+    }
+
     fn encode(&mut self) -> Option<Encode> {
         Some(Encode {
             protocol: self.number()?,
@@ -165,6 +211,10 @@ impl<'a, I: Iterator<Item = &'a [u8]>> Words<I> {
             b"reset" => Ask::Reset,
             _ => return None,
         })
+    }
+
+    fn polls(&mut self) -> Option<u32> {
+        self.number().filter(|count| (1..=POLLS).contains(count))
     }
 
     fn edge(&mut self) -> Option<Edge> {

@@ -69,11 +69,7 @@ where
         if matches!(status, Status::Done | Status::Error(_)) {
             self.by_event.reset();
         }
-        let report = match self.by_total.event_total(rising, duration) {
-            Ok(None) => Report::Nothing,
-            Ok(Some(command)) => Report::Command(command.into()),
-            Err(error) => Report::Error(fault_of(error)),
-        };
+        let report = report_of(self.by_total.event_total(rising, duration));
         Shown {
             status,
             heard,
@@ -100,6 +96,17 @@ fn status_of(state: State) -> Status {
         State::Receiving => Status::Receiving,
         State::Done => Status::Done,
         State::Error(error) => Status::Error(fault_of(error)),
+    }
+}
+
+pub fn report_of<C>(told: Result<Option<C>, DecodingError>) -> Report
+where
+    Heard: From<C>,
+{
+    match told {
+        Ok(None) => Report::Nothing,
+        Ok(Some(command)) => Report::Command(command.into()),
+        Err(error) => Report::Error(fault_of(error)),
     }
 }
 

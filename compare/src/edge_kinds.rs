@@ -30,7 +30,7 @@ pub struct Maker {
     spans: Spans,
     bound: u32,
     /// No span holds a duration above it.
-    longest: u32,
+    pub longest: u32,
     /// The next of the ends that are tried.
     end: u32,
 }
@@ -219,7 +219,7 @@ impl Maker {
     }
 
     /// The ends by turns: at, one below and one above, low and high, of each place.
-    fn next_end(&mut self) -> u32 {
+    pub fn next_end(&mut self) -> u32 {
         self.end = (self.end + 1) % (6 * PLACES as u32);
         let span = self.spans[self.end as usize / 6];
         let end = match self.end / 3 % 2 {
@@ -278,7 +278,7 @@ impl Maker {
     }
 
     /// A fall and a rise of that sum.
-    fn pulse_of(&mut self, sum: u32) -> [Edge; 2] {
+    pub fn pulse_of(&mut self, sum: u32) -> [Edge; 2] {
         let any = (u64::from(self.random.next() as u32) * (u64::from(sum) + 1) >> 32) as u32;
         let first = self.random.one_of(&[sum / 2, any, 0, sum]);
         pulse(first, sum - first)

@@ -14,7 +14,7 @@ use crate::slots::{Reported, Slots};
 /// The answers to many calls fit it: fewer turns between us and the program.
 const BUFFER: usize = 1 << 16;
 
-/// The parts that are run, and how many times longer those of edges are.
+/// The parts that are run, and how many times longer those of edges and of polls are.
 #[derive(Clone, Copy)]
 pub struct Choice {
     pub parts: &'static [Part],
@@ -172,14 +172,15 @@ fn print_part(out: &mut impl Write, part: &Part, tally: &Tally) -> io::Result<()
     writeln!(
         out,
         "part {:12}{:>8}: by the crate {}, by document 01 {}, refused {}, \
-         commands reported {}, errors reported {}",
+         commands reported {}, errors reported {}, polls {}",
         part.name,
         counts.all(),
         counts.of(Source::Crate),
         counts.by_document(),
         counts.of(Source::Refused),
         reported.commands,
-        reported.errors
+        reported.errors,
+        reported.polls
     )
 }
 

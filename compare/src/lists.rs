@@ -6,6 +6,7 @@ use crate::calls::Call;
 use crate::document::{self, Protocol, PROTOCOLS};
 use crate::edge_lists;
 use crate::frame_lists;
+use crate::poll_lists;
 
 pub type Calls = Box<dyn Iterator<Item = Call> + Send>;
 
@@ -32,18 +33,19 @@ impl Part {
 }
 
 /// The parts of the large run, in their order.
-pub static PARTS: [Part; 11] = [
+pub static PARTS: [Part; 12] = [
     part("spans", spans_part),
     part("nec", frame_lists::nec_part),
     part("rc5", frame_lists::rc5_part),
     part("rc6", frame_lists::rc6_part),
     part("mixed", frame_lists::mixed_part),
     part("rates", frame_lists::any_rate_part),
-    edges_part("nec-edges", edge_lists::nec_part),
-    edges_part("rc5-edges", edge_lists::rc5_part),
-    edges_part("rc6-edges", edge_lists::rc6_part),
-    edges_part("sbp-edges", edge_lists::sbp_part),
-    edges_part("denon-edges", edge_lists::denon_part),
+    longer_part("nec-edges", edge_lists::nec_part),
+    longer_part("rc5-edges", edge_lists::rc5_part),
+    longer_part("rc6-edges", edge_lists::rc6_part),
+    longer_part("sbp-edges", edge_lists::sbp_part),
+    longer_part("denon-edges", edge_lists::denon_part),
+    longer_part("polls", poll_lists::polls_part),
 ];
 
 const fn part(name: &'static str, calls: fn() -> Calls) -> Part {
@@ -51,7 +53,7 @@ const fn part(name: &'static str, calls: fn() -> Calls) -> Part {
     Part { name, make }
 }
 
-const fn edges_part(name: &'static str, calls: fn(u32) -> Calls) -> Part {
+const fn longer_part(name: &'static str, calls: fn(u32) -> Calls) -> Part {
     let make = Make::Longer(calls);
     Part { name, make }
 }

@@ -11,15 +11,21 @@ mod encode;
 mod encoders;
 mod frame_lists;
 mod frames;
+mod judge;
 mod large;
 mod lists;
 mod model;
 mod oracle;
+mod poll_lists;
+mod poll_model;
+mod polled;
 mod pulse_frames;
 mod random;
 mod rates;
+mod receivers;
 mod recorded;
 mod recorded_frames;
+mod recorded_polls;
 mod recorded_pulses;
 mod recorded_runs;
 mod recorded_scenes;
@@ -46,7 +52,7 @@ const USAGE: &str = "usage:
                                      the calls of the large run
   compare large [--part NAME] [--times N] PROGRAM [ARGS..]
                                      the large run against a program; the parts of edges
-                                     are made N times longer
+                                     and of polls are made N times longer
   compare rates                      where the crate's spans are ours, over every rate
   compare tour WORDS..               what the program tour prints
 the parts of the large run:";
@@ -95,8 +101,8 @@ fn run(words: &[OsString]) -> io::Result<Option<bool>> {
     held
 }
 
-/// All parts, or the one that the words name, and how much longer those of edges are; and the
-/// words after. `None` where the part is unknown or the number is none.
+/// All parts, or the one that the words name, and how much longer those of edges and of polls are;
+/// and the words after. `None` where the part is unknown or the number is none.
 fn choose(words: &[OsString]) -> Option<(Choice, &[OsString])> {
     let (parts, words) = match words {
         [option, name, rest @ ..] if option == "--part" => {

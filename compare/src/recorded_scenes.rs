@@ -1,6 +1,7 @@
-//! The scenes of the recorded test: each begins with its `open` lines, and is named by the wrong
+//! The scenes of the recorded test: each begins with what it opens, and is named by the wrong
 //! that it would show.
 
+use crate::recorded_polls::*;
 use crate::recorded_pulses::*;
 use crate::recorded_runs::*;
 use crate::recorded_slots::*;
@@ -67,6 +68,22 @@ scenes! {
     rc6_wrong_pulse_goes_on,
     rc6_reaches_its_data_error,
     rc6_checks_its_header,
+    // The first of these: the polled receivers' slots are still closed.
+    closed_receiver_answers,
+    refused_polled_empties_the_slot,
+    wrong_poll_is_taken,
+    first_run_is_one_short,
+    unchanged_level_is_an_edge,
+    nec_polls_are_not_heard,
+    rc5_polls_are_not_heard,
+    rc6_polls_are_not_heard,
+    sbp_polls_are_not_heard,
+    denon_polls_are_not_heard,
+    rc5_polls_are_cut_at_1_mhz,
+    receivers_share_a_clock,
+    polled_keeps_the_old_clock,
+    clock_stops_at_its_end,
+    run_over_the_turn_is_lost,
 }
 
 fn scene_of(write: fn(&mut Scene)) -> Scene {

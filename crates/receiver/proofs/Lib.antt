@@ -1,3 +1,4 @@
 pub mod Numbers
 pub mod Laws
+pub mod Polls
 pub mod Determined

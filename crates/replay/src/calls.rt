@@ -10,6 +10,11 @@ use crate::on_decoders::Slots;
 use crate::on_decoders::is_edge;
 use crate::on_frames::is_encode;
 use crate::on_frames::put_encode_call;
+use crate::on_polls;
+use crate::on_polls::PollDone;
+use crate::on_polls::PollSlot;
+use crate::on_polls::PollSlots;
+use crate::on_polls::is_poll;
 use crate::on_spans::put_lookup_call;
 use crate::on_spans::put_spans_call;
 use crate::out::put;
@@ -34,9 +39,22 @@ const COMMAND: u64 = 0x636F6D6D616E64;
 
 const RESET: u64 = 0x7265736574;
 
+const POLLED: u64 = 0x706F6C6C6564;
+
+const POLL: u64 = 0x706F6C6C;
+
+const IDLE: u64 = 0x69646C65;
+
+// All slots: of decoders, and of polled receivers.
+pub struct Held {
+    pub slots: Slots,
+    pub polls: PollSlots,
+}
+
+// What is held after a line, and the place behind its answer.
 pub struct AnswerEnd {
     pub at: usize,
-    pub slots: Slots,
+    pub held: Held,
 }
 
 // The calls that need no decoder, and the lines that are no call.
@@ -97,26 +115,72 @@ fn on_slot(text: &mut [u8], line: Line, n: &[u64; 8], slot: Slot) -> Done {
     Done { at, slot }
 }
 
-fn answer(text: &mut [u8], line: Line, n: &[u64; 8], slots: Slots) -> AnswerEnd {
-    if is_open(line, n) || is_on_slot(line, n) {
-        let k = (n[0] % 8) as usize;
-        let slot = slots.slots[k];
-        let done = on_slot(text, line, n, slot);
-        let after = done.slot;
-        let mut s = slots;
-        s.slots[k] = after;
-        return AnswerEnd {
-            at: done.at,
-            slots: s,
-        };
-    }
-    let at = put_answer(text, line, n);
-    AnswerEnd { at, slots }
+fn is_polled(line: Line, n: &[u64; 8]) -> bool {
+    is_call(line, POLLED, 3) && n[0] <= 7 && is_u32(n[1]) && is_u32(n[2])
 }
 
-pub fn answered(text: &mut [u8], line: Line, n: &[u64; 8], slots: Slots) -> AnswerEnd {
-    let a = answer(text, line, n, slots);
+// The line is a call on a polled receiver, other than polled.
+fn is_on_poll(line: Line, n: &[u64; 8]) -> bool {
+    (is_call(line, POLL, 3) && is_poll(n)) || (is_call(line, IDLE, 2) && n[0] <= 7 && is_u32(n[1]))
+}
+
+fn on_poll(text: &mut [u8], line: Line, n: &[u64; 8], slot: PollSlot) -> PollDone {
+    if is_polled(line, n) {
+        return on_polls::open(text, line.at, slot, low_32(n[1]), low_32(n[2]));
+    }
+    if !slot.is_open {
+        let at = put_all(text, line.at, b"not open");
+        return PollDone { at, slot };
+    }
+    let receiver = slot.receiver;
+    if line.name == POLL {
+        return on_polls::poll(text, line.at, receiver, n[1] == 1, n[2]);
+    }
+    on_polls::idle(text, line.at, receiver, low_32(n[1]))
+}
+
+fn with_slot(text: &mut [u8], line: Line, n: &[u64; 8], held: Held) -> AnswerEnd {
+    let k = (n[0] % 8) as usize;
+    let mut slots = held.slots;
+    let polls = held.polls;
+    let slot = slots.slots[k];
+    let done = on_slot(text, line, n, slot);
+    let after = done.slot;
+    slots.slots[k] = after;
+    AnswerEnd {
+        at: done.at,
+        held: Held { slots, polls },
+    }
+}
+
+fn with_poll(text: &mut [u8], line: Line, n: &[u64; 8], held: Held) -> AnswerEnd {
+    let k = (n[0] % 8) as usize;
+    let slots = held.slots;
+    let mut polls = held.polls;
+    let slot = polls.slots[k];
+    let done = on_poll(text, line, n, slot);
+    let after = done.slot;
+    polls.slots[k] = after;
+    AnswerEnd {
+        at: done.at,
+        held: Held { slots, polls },
+    }
+}
+
+fn answer(text: &mut [u8], line: Line, n: &[u64; 8], held: Held) -> AnswerEnd {
+    if is_open(line, n) || is_on_slot(line, n) {
+        return with_slot(text, line, n, held);
+    }
+    if is_polled(line, n) || is_on_poll(line, n) {
+        return with_poll(text, line, n, held);
+    }
+    let at = put_answer(text, line, n);
+    AnswerEnd { at, held }
+}
+
+pub fn answered(text: &mut [u8], line: Line, n: &[u64; 8], held: Held) -> AnswerEnd {
+    let a = answer(text, line, n, held);
     let at = put(text, a.at, b'\n');
-    let s = a.slots;
-    AnswerEnd { at, slots: s }
+    let after = a.held;
+    AnswerEnd { at, held: after }
 }

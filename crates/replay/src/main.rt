@@ -4,19 +4,20 @@ mod calls;
 mod line;
 mod on_decoders;
 mod on_frames;
+mod on_polls;
 mod on_spans;
 mod out;
 
+use calls::Held;
 use calls::answered;
 use libc::STDIN_FILENO;
 use libc::STDOUT_FILENO;
 use line::Line;
-use on_decoders::Slots;
 
 // All that is kept between lines and between reads.
 pub struct State {
     pub line: Line,
-    pub slots: Slots,
+    pub held: Held,
 }
 
 pub struct Turn {
@@ -36,32 +37,37 @@ fn flushed(text: &[u8], at: usize, room: usize) -> usize {
 }
 
 // The end of a line: its call is answered, and the next line begins.
-fn line_ended(line: Line, slots: Slots, numbers: &[u64; 8], text: &mut [u8]) -> State {
-    let a = answered(text, line, numbers, slots);
-    let after = a.slots;
+fn line_ended(line: Line, held: Held, numbers: &[u64; 8], text: &mut [u8]) -> State {
+    let a = answered(text, line, numbers, held);
+    let after = a.held;
     let at = flushed(text, a.at, 4096);
     State {
         line: line::fresh(at),
-        slots: after,
+        held: after,
+    }
+}
+
+// One byte of input.
+fn fed(state: State, numbers: &mut [u64; 8], b: u8, text: &mut [u8]) -> State {
+    let line = state.line;
+    let held = state.held;
+    if b == b'\n' {
+        return line_ended(line, held, numbers, text);
+    }
+    State {
+        line: line::fed(line, numbers, b),
+        held,
     }
 }
 
 fn fed_all(s: &[u8], state: State, numbers: &mut [u64; 8], text: &mut [u8]) -> State {
-    let mut line = state.line;
-    let mut slots = state.slots;
+    let mut after = state;
     let mut i = 0;
     while i < s.len() {
-        let b = s[i];
-        if b == b'\n' {
-            let next = line_ended(line, slots, numbers, text);
-            line = next.line;
-            slots = next.slots;
-        } else {
-            line = line::fed(line, numbers, b);
-        }
+        after = fed(after, numbers, s[i], text);
         i += 1;
     }
-    State { line, slots }
+    after
 }
 
 fn read_some(state: State, numbers: &mut [u64; 8], text: &mut [u8]) -> Turn {
@@ -82,7 +88,10 @@ fn read_some(state: State, numbers: &mut [u64; 8], text: &mut [u8]) -> Turn {
 fn read_all(numbers: &mut [u64; 8], text: &mut [u8]) -> State {
     let mut state = State {
         line: line::fresh(0),
-        slots: on_decoders::all_closed(),
+        held: Held {
+            slots: on_decoders::all_closed(),
+            polls: on_polls::all_closed(),
+        },
     };
     let mut turns = u64::MAX;
     while turns > 0 {
@@ -99,9 +108,9 @@ fn read_all(numbers: &mut [u64; 8], text: &mut [u8]) -> State {
 // Answers a last line that lacks its newline, and writes out what is left.
 fn finish(state: State, numbers: &[u64; 8], text: &mut [u8]) {
     let line = state.line;
-    let slots = state.slots;
+    let held = state.held;
     if line.begun {
-        let a = answered(text, line, numbers, slots);
+        let a = answered(text, line, numbers, held);
         flushed(text, a.at, 65537);
     } else {
         flushed(text, line.at, 65537);

@@ -119,7 +119,7 @@ fn put_command(text: &mut [u8], at: usize, command: Command) -> usize {
     }
 }
 
-fn put_report(text: &mut [u8], at: usize, report: Report) -> usize {
+pub fn put_report(text: &mut [u8], at: usize, report: Report) -> usize {
     match report {
         Report::Nothing => put_all(text, at, b"nothing"),
         Report::Command(command) => put_command(text, at, command),

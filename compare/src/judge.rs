@@ -1,0 +1,68 @@
+//! Who answers the calls on a slot: the crate where its spans are document 01's and no sum of
+//! saved and new has passed 32 bits since the slot was opened, else document 01. Where the crate
+//! answers, document 01 says the same, or we end here.
+
+use std::fmt::Debug;
+
+use crate::answers::{expected_spans, Source};
+use crate::calls::Edge;
+use crate::document::Protocol;
+use crate::model::Decoder;
+
+pub struct Judge {
+    /// What the slot holds.
+    name: &'static str,
+    protocol: Protocol,
+    rate: u32,
+    source: Source,
+    /// Edges since the slot was opened.
+    edges: u64,
+}
+
+impl Judge {
+    pub fn new(name: &'static str, protocol: Protocol, rate: u32) -> Judge {
+        Judge {
+            name,
+            protocol,
+            rate,
+            source: expected_spans(protocol, rate).1,
+            edges: 0,
+        }
+    }
+
+    pub fn source(&self) -> Source {
+        self.source
+    }
+
+    /// From a sum above 32 bits on the crate is not asked: it goes round.
+    pub fn before(&mut self, document: &Decoder, edge: &Edge) {
+        self.edges += 1;
+        let passes = document.passes_32_bits(edge.rising, edge.duration);
+        if passes && self.source == Source::Crate {
+            self.source = Source::AfterSum;
+        }
+    }
+
+    /// The crate's answer where it is asked, else document 01's.
+    pub fn told<T>(&self, exact: T, ask: impl FnOnce() -> T) -> T
+    where
+        T: PartialEq + Debug,
+    {
+        if self.source != Source::Crate {
+            return exact;
+        }
+        let found = ask();
+        assert!(
+            found == exact,
+            "the crate's {} is not document 01's: {} at {}, after edge {} since open\n\
+             crate    {:?}\ndocument {:?}",
+            self.name,
+            self.protocol.name(),
+            self.rate,
+            self.edges,
+            found,
+            exact
+        );
+        found
+    }
+}
