@@ -248,7 +248,7 @@ pub fn reset_of(m: NecMemory) -> NecMemory
     ensures { λ r. ⌜ r ≡ resetOf m ⌝ }
 {
     NecMemory {
-        state: NecState::Init,
+        state: NecState::Init, // ready for the next frame
         bits: m.bits,
         saved: 0,
     }

@@ -10,7 +10,8 @@ use Rattle.frames.specs.Frames.{scaledOf, Fit, more}
 use Rattle.frames.proofs.Changes.{changesBelow, below-le, top-change}
 use Rattle.frames.proofs.LowBits.{same-bits}
 use Rattle.frames.proofs.Scaled.{scaled-le}
-use Rattle.rc5.specs.Encoder.{piecesAfter, frameOf, wordOf, changesOf}
+use Rattle.rc5.specs.Encoder.{piecesAfter, frameOf}
+use Rattle.rc5.specs.EncoderSteps.{wordOf, changesOf}
 use Rattle.rc5.proofs.Pieces.{piecesBelow, same-pieces, length-pieces, pieces-fit}
 
 top : (bits : ℕ) → wordOf bits / 8192 ≡ 1

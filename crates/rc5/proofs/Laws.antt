@@ -53,6 +53,9 @@ sound-in-reach (Data n) h = le-ltb 12 n (leb-true n 12 h)
 sound-in-reach Done h = refl
 sound-in-reach (Error fault) h = refl
 
+pub reachable-in-reach : (state : Rc5State) → reachable state ≡ true → pastEnd state ≡ false
+reachable-in-reach state h = sound-in-reach state (reachable-sound state h)
+
 after-bit-sound : (n : ℕ) → n ≤ 12 → sound (afterBit n) ≡ true
 after-bit-sound n h = either (λ state. sound state ≡ true) (eqb n 0) refl (le-leb (n - 1) 12 (omega arith))
 
@@ -103,19 +106,21 @@ module _ (low high : List ℕ) (m : Rc5Memory) (duration : ℕ) where
       let t = ticked m place in
       next-sound (t .state) (t .bits) (t .clock) rising (ticked-sound m place h)
 
-  pub total-reachable : (rising : Bool) → reachable (m .state) ≡ true → reachable (totalIn low high m rising duration .memory .state) ≡ true
+  -- an edge that is not refused: the rule after the step
+  pub total-taken : (rising : Bool) → pastEnd (m .state) ≡ false → totalIn low high m rising duration ≡ settled (stood (stepIn low high m rising duration))
   unfolding totalIn eventIn
+  total-taken rising h = rw h
+
+  pub total-reachable : (rising : Bool) → reachable (m .state) ≡ true → reachable (totalIn low high m rising duration .memory .state) ≡ true
   total-reachable rising h =
-      let s = reachable-sound (m .state) h in
-      rw (sound-in-reach (m .state) s) (settled-reachable (stepIn low high m rising duration) _ refl (step-sound rising s))
+      rw (total-taken rising (reachable-in-reach (m .state) h))
+      (settled-reachable (stepIn low high m rising duration) _ refl (step-sound rising (reachable-sound (m .state) h)))
 
   pub total-no-error
       : (rising : Bool) (fault : Fault) → reachable (m .state) ≡ true → totalIn low high m rising duration .report ≡ report.Error fault → ⊥
-  unfolding totalIn eventIn
   total-no-error rising fault h r =
-      let s = reachable-sound (m .state) h in
-      never (settled-no-error (stepIn low high m rising duration) _ refl (step-sound rising s))
-      (rw (sound-in-reach (m .state) s) at r)
+      never (settled-no-error (stepIn low high m rising duration) _ refl (step-sound rising (reachable-sound (m .state) h)))
+      (rw (total-taken rising (reachable-in-reach (m .state) h)) at r)
 
 pub fresh-reachable : (rate : ℕ) → reachable (newAt rate .decoder .memory .state) ≡ true
 fresh-reachable rate = refl

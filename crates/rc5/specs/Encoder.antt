@@ -1,8 +1,7 @@
 -- Document 01, "Frames": the RC5 frame.
-use Prim.Native.Nat.{ℕ, zero, suc, _+_, _*_, _/_, _%_}
+use Prim.Native.Nat.{ℕ, zero, suc, _+_, _*_}
 use mathlib.Core.List.{List, [], _∷_, _++_}
 use mathlib.Core.Bool.{Bool, true, cond, Bool·beq}
-use lib.Bits.{bitXor}
 use Rattle.commands.specs.Rc5.{packOf}
 use Rattle.commands.specs.declared.rc5.Rc5Command.{Rc5Command}
 use Rattle.frames.specs.Frames.{scaledOf, bitSet}
@@ -23,10 +22,3 @@ frameOf bits single = 0 ∷ piecesAfter single bits true 13
 
 abbrev pub rc5Frame : Rc5Command → ℕ → List ℕ
 rc5Frame command rate = frameOf (packOf command) (scaledOf 889 rate)
-
--- what the encoder counts by: bits 12 to 0 below the 1 that the first is held against, and where neighbours differ
-abbrev pub wordOf : ℕ → ℕ
-wordOf bits = 8192 + bits % 8192
-
-abbrev pub changesOf : ℕ → ℕ
-changesOf bits = bitXor (wordOf bits) (wordOf bits / 2)

@@ -7,7 +7,8 @@ ghost use Prim.Native.Nat.{_<_, _≤_, _+_, _^_};
 ghost use lib.ListN.{length};
 ghost use lib.Seq.{sets};
 ghost use Rattle.frames.specs.Frames.{encodedOf, leftOf};
-ghost use Rattle.rc5.specs.Encoder.{pieceOf, piecesAfter, changesOf, frameOf, rc5Frame};
+ghost use Rattle.rc5.specs.Encoder.{pieceOf, piecesAfter, frameOf, rc5Frame};
+ghost use Rattle.rc5.specs.EncoderSteps.{changesOf};
 
 // Bit k is set where bit k of the packed bits, 12 to 0, differs from the one before. Bit 13 is set: the 1 that the first is held against.
 fn changes(bits: u16) -> u32

@@ -8,7 +8,8 @@ use lib.ListN.{length, set}
 use lib.Seq.{sets, length-sets}
 use Rattle.frames.proofs.Laid.{same-room}
 use Rattle.rc6.specs.declared.encoder.Run.{Run}
-use Rattle.rc6.specs.Encoder.{merged, inTicks, standing, wordLevels, wordFrame}
+use Rattle.rc6.specs.Encoder.{merged, inTicks}
+use Rattle.rc6.specs.EncoderSteps.{standing, wordLevels, wordFrame}
 use Rattle.rc6.proofs.Levels.{runOf}
 
 module _ (unit word : ℕ) (lent between : List ℕ) (first : Run) (starts : first ≡ runOf false 2 2) (led : between ≡ sets lent 0 (inTicks unit (0 ∷ 6 ∷ []))) where

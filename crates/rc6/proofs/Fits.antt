@@ -5,7 +5,8 @@ use Prim.Native.Nat.{ℕ, zero, suc, _+_, _*_, _^_, _<_, _≤_}
 use native.Mathlib.Nat.{mul-le-mul-right}
 use native.Mathlib.Omega.{arith}
 use Rattle.frames.specs.Frames.{bitSet, Fit, none, more}
-use Rattle.rc6.specs.Encoder.{merged, inTicks, unitOf, frameOf, levelOf, joined, halfOf, wordOf, wordLevels}
+use Rattle.rc6.specs.Encoder.{merged, inTicks, unitOf, frameOf}
+use Rattle.rc6.specs.EncoderSteps.{levelOf, joined, halfOf, wordOf, wordLevels}
 use Rattle.rc6.proofs.Levels.{runOf, bit-merged}
 use Rattle.rc6.proofs.Turns.{half-le}
 use Rattle.rc6.proofs.Frame.{frame-is}

@@ -14,7 +14,8 @@ use lib.Seq.{sets}
 use Rattle.frames.specs.Frames.{bitSet}
 use Rattle.frames.proofs.Changes.{changes, changesBelow, below-le, one-more, top-change}
 use Rattle.frames.proofs.LowBits.{same-bits}
-use Rattle.rc6.specs.Encoder.{Level, high, low, highestFirst, levelsOf, merged, inTicks, frameOf, levelOf, wordOf, wordLevels, wordFrame}
+use Rattle.rc6.specs.Encoder.{Level, high, low, highestFirst, levelsOf, merged, inTicks, frameOf}
+use Rattle.rc6.specs.EncoderSteps.{levelOf, wordOf, wordLevels, wordFrame}
 use Rattle.rc6.proofs.Turns.{length-behind}
 
 -- the word's parts: a 1, the start bit 1, the mode 000 and the toggle above, the 16 bits below

@@ -65,6 +65,9 @@ sound-in-reach (Data n) h = le-ltb 15 n (leb-true n 15 h)
 sound-in-reach Done h = refl
 sound-in-reach (Error fault) h = refl
 
+pub reachable-in-reach : (state : Rc6State) → reachable state ≡ true → pastEnd state ≡ false
+reachable-in-reach state h = sound-in-reach state (reachable-sound state h)
+
 after-header-sound : (n : ℕ) → n ≤ 3 → SoundAt (afterHeader n)
 after-header-sound n h = either SoundAt (eqb n 0) refl (le-leb (n - 1) 3 (omega arith))
 
@@ -117,9 +120,8 @@ module _ (low high : List ℕ) (m : Rc6Memory) (duration : ℕ) where
 
   pub total-reachable : (rising : Bool) → reachable (m .state) ≡ true → reachable (totalIn low high m rising duration .memory .state) ≡ true
   total-reachable rising h =
-      let s = reachable-sound (m .state) h in
-      rw (total-taken rising (sound-in-reach (m .state) s))
-      (settled-reachable (stepIn low high m rising duration) _ refl (step-sound rising s))
+      rw (total-taken rising (reachable-in-reach (m .state) h))
+      (settled-reachable (stepIn low high m rising duration) _ refl (step-sound rising (reachable-sound (m .state) h)))
 
 pub fresh-reachable : (rate : ℕ) → reachable (newAt rate .decoder .memory .state) ≡ true
 fresh-reachable rate = refl

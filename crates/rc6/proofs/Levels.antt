@@ -9,7 +9,8 @@ use native.Mathlib.Omega.{arith}
 use lib.ListN.{length}
 use lib.Seq.{sets}
 use Rattle.rc6.specs.declared.encoder.Run.{Run}
-use Rattle.rc6.specs.Encoder.{Level, bitLevels, merged, inTicks, levelOf, written, after, joined, afterBit}
+use Rattle.rc6.specs.Encoder.{Level, bitLevels, merged, inTicks}
+use Rattle.rc6.specs.EncoderSteps.{levelOf, written, after, joined, afterBit}
 
 abbrev pub runOf : Bool → ℕ → ℕ → Run
 runOf level units at = record { high = level; units = units; at = at }

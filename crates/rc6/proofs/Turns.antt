@@ -12,7 +12,8 @@ use Rattle.frames.specs.Frames.{bitSet}
 use Rattle.frames.proofs.Changes.{changesBelow, none-below, one-more}
 use Rattle.frames.proofs.Laid.{sets-append}
 use Rattle.rc6.specs.declared.encoder.Run.{Run}
-use Rattle.rc6.specs.Encoder.{merged, inTicks, levelOf, standing, joined, afterBit, halfOf, wordLevels}
+use Rattle.rc6.specs.Encoder.{merged, inTicks}
+use Rattle.rc6.specs.EncoderSteps.{levelOf, standing, joined, afterBit, halfOf, wordLevels}
 use Rattle.rc6.proofs.Levels.{runOf, bit-merged}
 
 -- a bit like the one above writes two durations, a change one

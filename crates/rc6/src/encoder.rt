@@ -8,7 +8,8 @@ ghost use Prim.Native.Nat.{_<_, _≤_, _+_, _*_, _/_};
 ghost use lib.ListN.{length};
 ghost use lib.Seq.{sets};
 ghost use Rattle.frames.specs.Frames.{encodedOf, leftOf};
-ghost use Rattle.rc6.specs.Encoder.{merged, inTicks, rc6Frame, standing, written, after, joined, afterBit, wordOf, halfOf, wordLevels, wordFrame};
+ghost use Rattle.rc6.specs.Encoder.{merged, inTicks, rc6Frame};
+ghost use Rattle.rc6.specs.EncoderSteps.{standing, written, after, joined, afterBit, wordOf, halfOf, wordLevels, wordFrame};
 
 // The level that stands, its units so far, and the place that its duration takes.
 struct Run {

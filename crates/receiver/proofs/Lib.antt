@@ -1,4 +1,4 @@
 pub mod Numbers
 pub mod Laws
-pub mod Polls
+pub mod Room
 pub mod Determined

@@ -2,8 +2,8 @@
 use crate::on_decoders::put_report;
 use crate::out::put_all;
 use crate::out::put_with;
-use receiver::polled::Polled;
-use receiver::polled::poll_through;
+use polled::Polled;
+use polled::poll_through;
 use reports::Report;
 use spans::Answer;
 

@@ -1,4 +1,5 @@
 pub mod Entries
 pub mod Within
 pub mod Determined
+pub mod Places
 pub mod Numbers

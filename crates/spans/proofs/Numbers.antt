@@ -1,13 +1,16 @@
--- Document 01's numbers on spans at 1 MHz, each by computation from the rules: the nineteen spans that it prints, and its starred numbers.
+-- Document 01's numbers on spans at 1 MHz, each by computation from the rules: the nineteen spans that it prints, those that overlap, and its starred numbers.
+-- And its last rate.
 -- Assumes nothing.
 use mathlib.Core.Path.{_≡_, refl}
 use mathlib.Core.List.{List, [], _∷_}
-use Prim.Native.Nat.{ℕ}
+use Prim.Native.Nat.{ℕ, _*_, _^_, _≤_, _<_}
+use native.Mathlib.Omega.{arith}
 use Rattle.spans.specs.declared.Span.{Span}
 use Rattle.spans.specs.declared.Found.{Found}
 use Rattle.spans.specs.declared.Found.the-variants.{At, Nothing}
-use Rattle.spans.specs.Spans.{spanAt, spansAt}
+use Rattle.spans.specs.Spans.{spanAt, spansAt, spansOf}
 use Rattle.spans.specs.Lookup.{lookupOf, lowestFrom}
+use Rattle.spans.proofs.Places.{placeAt, allRead, reads-place}
 
 -- "12555..14445"
 abbrev to : ℕ → ℕ → Span
@@ -72,6 +75,19 @@ rc6-2486 = refl
 pub rc6-2487 : reads 3 2487 ≡ At 5
 unfolding spansAt lowestFrom
 rc6-2487 = refl
+
+-- "The RC6 spans of 4, 5 and 6 ticks overlap: 1954..1989 reads 4, 2345..2486 reads 5"
+pub rc6-1954-to-1989 : (duration : ℕ) → 1954 ≤ duration → duration ≤ 1989 → placeAt 3 duration ≡ 3
+unfolding spansOf spansAt allRead
+rc6-1954-to-1989 duration from to = reads-place 3 3 1954 1989 duration tt from to
+
+pub rc6-2345-to-2486 : (duration : ℕ) → 2345 ≤ duration → duration ≤ 2486 → placeAt 3 duration ≡ 4
+unfolding spansOf spansAt allRead
+rc6-2345-to-2486 duration from to = reads-place 3 4 2345 2486 duration tt from to
+
+-- "9,673,349 is the last rate at which `444 * F` fits 32 bits"
+pub last-rate : (444 * 9673349 < 2 ^ 32) × (2 ^ 32 ≤ 444 * 9673350)
+last-rate = (omega arith, omega arith)
 
 -- "RC5 duration 0 reads 3; RC6 duration 0 reads 7"
 pub rc5-0 : reads 2 0 ≡ At 2

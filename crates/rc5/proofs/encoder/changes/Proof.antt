@@ -4,7 +4,7 @@ use Prim.Native.Nat.{ℕ, _/_, _%_}
 use native.Mathlib.Nat.{mod-lt}
 use native.Mathlib.Omega.{arith}
 use lib.Bits.{bitAnd, bitOr, bitXor, and-mask, or-shifted-r}
-use Rattle.rc5.specs.Encoder.{wordOf}
+use Rattle.rc5.specs.EncoderSteps.{wordOf}
 use Rattle.rc5.proofs.encoder.changes.Statement.{statement}
 use Rattle.rc5.proofs.encoder.changes.Tie as tie
 

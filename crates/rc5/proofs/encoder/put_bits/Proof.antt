@@ -5,7 +5,8 @@ use native.Mathlib.Omega.{arith}
 use lib.ListN.{length}
 use lib.Seq.{sets, length-sets}
 use Rattle.frames.specs.Frames.{bitSet}
-use Rattle.rc5.specs.Encoder.{piecesAfter, wordOf}
+use Rattle.rc5.specs.Encoder.{piecesAfter}
+use Rattle.rc5.specs.EncoderSteps.{wordOf}
 use Rattle.rc5.proofs.Frame.{whole, frame-whole}
 use Rattle.rc5.proofs.Pieces.{piecesBelow, next-length, next-piece}
 use borrow.Author.Needs.{needs}

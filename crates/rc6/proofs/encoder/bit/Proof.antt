@@ -4,7 +4,8 @@ use native.Mathlib.Omega.{arith}
 use lib.ListN.{length}
 use lib.Seq.{length-sets}
 use Rattle.rc6.specs.declared.encoder.Run.{Run}
-use Rattle.rc6.specs.Encoder.{inTicks, written}
+use Rattle.rc6.specs.Encoder.{inTicks}
+use Rattle.rc6.specs.EncoderSteps.{written}
 use Rattle.rc6.proofs.Levels.{bit-length, units-le, two-levels}
 use borrow.Author.Needs.{needs}
 use Rattle.rc6.proofs.encoder.bit.Statement.{statement}

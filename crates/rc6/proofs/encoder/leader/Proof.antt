@@ -7,7 +7,8 @@ use native.Mathlib.Omega.{arith}
 use lib.ListN.{length, length-set}
 use lib.Seq.{sets}
 use Rattle.rc6.specs.declared.encoder.Run.{Run}
-use Rattle.rc6.specs.Encoder.{inTicks, written, after}
+use Rattle.rc6.specs.Encoder.{inTicks}
+use Rattle.rc6.specs.EncoderSteps.{written, after}
 use borrow.Author.Needs.{needs}
 use Rattle.rc6.proofs.encoder.leader.Statement.{statement}
 use Rattle.rc6.proofs.encoder.leader.Tie as tie

@@ -5,7 +5,8 @@ use native.Mathlib.Omega.{arith}
 use lib.ListN.{length}
 use lib.Seq.{sets, length-sets}
 use Rattle.rc6.specs.declared.encoder.Run.{Run}
-use Rattle.rc6.specs.Encoder.{merged, inTicks, standing, wordLevels}
+use Rattle.rc6.specs.Encoder.{merged, inTicks}
+use Rattle.rc6.specs.EncoderSteps.{standing, wordLevels}
 use Rattle.rc6.proofs.Turns.{half-le, next-length, next-bit}
 use borrow.Author.Needs.{needs}
 use Rattle.rc6.proofs.encoder.put_bits.Statement.{statement}

@@ -6,7 +6,7 @@ use native.Mathlib.Omega.{arith}
 use borrow.Author.Needs.{needs}
 use lib.Bits.{bitOr, or-shifted-r}
 use mir.Val.{boolByte}
-use Rattle.rc6.specs.Encoder.{wordOf}
+use Rattle.rc6.specs.EncoderSteps.{wordOf}
 use Rattle.rc6.proofs.encoder.word.Statement.{statement}
 use Rattle.rc6.proofs.encoder.word.Tie as tie
 

@@ -1,0 +1,222 @@
+-- Each NEC command sent at 1 MHz after a silence is heard. The silence ends in no span, so whatever went before the receiver then waits in Init; the head
+-- is a sync; and by induction on the bits that are left each pair of durations adds its bit to those gathered. Assumes nothing.
+use mathlib.Core.Path.{_≡_, refl, sym, ap, _∙_}
+use mathlib.Core.Bool.{true, false, cond}
+use mathlib.Core.List.{List, [], _∷_}
+use Prim.Native.Nat.{ℕ, zero, suc, _+_, _*_, _/_, _%_, _^_, _≤_, _<_}
+use native.Mathlib.Omega.{arith}
+use native.Mathlib.Nat.{mod-lt, mod-eq-of-lt, one-mul}
+use native.Mathlib.Numerals.{add-one}
+use lib.Bits.{bitOr, or-shifted-r}
+use lib.Dec.{eqb}
+use lib.ListN.{length, drop}
+use lib.Pow.{pow-pos}
+use borrow.Author.Tests.{ne-eqb, le-leb}
+use Rattle.spans.specs.Spans.{spansOf, spansAt}
+use Rattle.commands.specs.Nec.{packOf, unpackOf}
+use Rattle.commands.specs.declared.Command.the-variants as command
+use Rattle.commands.specs.declared.nec.NecCommand.{NecCommand}
+use Rattle.commands.proofs.Laws.{nec-back, nec-fits}
+use Rattle.frames.specs.Frames.{pairsFrom}
+use Rattle.reports.specs.Run.{Edge, edge, runReports}
+use Rattle.reports.specs.declared.Fault.the-variants.{Data}
+use Rattle.reports.specs.declared.Report.{Report}
+use Rattle.reports.specs.declared.Report.the-variants as report
+use Rattle.reports.proofs.Run.{after-keeps}
+use Rattle.nec.specs.Decoder.{pastEnd, reachable, next, afterBit, nextOf, fromReceiving, memoryOf, stepIn, stood, settled, newAt, edgeReport, edgeAfter, reportsOf, decoderAfter}
+use Rattle.nec.specs.Encoder.{frameOf, necFrame}
+use Rattle.nec.specs.declared.decoder.NecState.{NecState}
+use Rattle.nec.specs.declared.decoder.NecState.the-variants.{Init, Receiving, Done, RepeatDone, Error}
+use Rattle.nec.specs.declared.decoder.NecMemory.{NecMemory}
+use Rattle.nec.specs.declared.decoder.NecDecoder.{NecDecoder}
+use Rattle.nec.specs.declared.decoder.NecTotalIn.{NecTotalIn}
+use Rattle.nec.proofs.Laws.{total-taken, reachable-in-reach, run-reachable}
+use Rattle.nec.proofs.Frame.{length-frame}
+use Rattle.promises.specs.Heard.{Near, none, more, alternating, Heard, NothingOrData, nothing, broken, necReceiver, EveryNecHeard}
+use Rattle.spans.proofs.Places.{placeAt, allRead, noneReads, reads-place, ends-place}
+use Rattle.promises.proofs.Bits.{low-more}
+use Rattle.promises.proofs.Run.{Works, Silent, Goes, Reports, here, onward, heard, near-length}
+
+-- ---- the step, and the rule after it
+
+abbrev low : List ℕ
+low = spansOf 1 1000000 .spans .low
+
+abbrev high : List ℕ
+high = spansOf 1 1000000 .spans .high
+
+abbrev of : NecMemory → NecDecoder
+of m = record { spans = spansOf 1 1000000 .spans; memory = m }
+
+abbrev works : Works necReceiver
+works =
+    record {
+      Memory = NecMemory;
+      of = of;
+      step = stepIn low high;
+      told = λ m. settled (stood m) .report;
+      kept = λ m. settled (stood m) .memory;
+      Taken = λ m. pastEnd (m .state) ≡ false;
+      taken-report = λ m rising duration h. ap (λ (t : NecTotalIn). t .report) (total-taken low high m duration rising h);
+      taken-after = λ m rising duration h. ap (λ (t : NecTotalIn). of (t .memory)) (total-taken low high m duration rising h);
+    }
+
+abbrev at : NecState → ℕ → ℕ → NecMemory
+at state bits saved = memoryOf (next state bits) saved
+
+waits : {bits saved : ℕ} → Silent works (at Init bits saved)
+waits = record { nothing = refl; same = refl; taken = refl }
+
+receives : (k : ℕ) {bits saved : ℕ} → k ≤ 31 → Silent works (at (Receiving k) bits saved)
+receives k h = record { nothing = refl; same = refl; taken = reachable-in-reach (Receiving k) (le-leb k 31 h) }
+
+-- ---- what the totals read
+
+is-sync : (d : ℕ) → 13444 ≤ d → d ≤ 13556 → placeAt 1 d ≡ 0
+unfolding allRead spansOf spansAt
+is-sync d h k = reads-place 1 0 13444 13556 d tt h k
+
+is-zero : (d : ℕ) → 1064 ≤ d → d ≤ 1176 → placeAt 1 d ≡ 2
+unfolding allRead spansOf spansAt
+is-zero d h k = reads-place 1 2 1064 1176 d tt h k
+
+is-one : (d : ℕ) → 2194 ≤ d → d ≤ 2306 → placeAt 1 d ≡ 3
+unfolding allRead spansOf spansAt
+is-one d h k = reads-place 1 3 2194 2306 d tt h k
+
+is-none : (d : ℕ) → 14445 < d → placeAt 1 d ≡ 8
+unfolding noneReads spansOf spansAt
+is-none d h = ends-place 1 14446 d tt h
+
+-- ---- one bit
+
+one-more : (n k : ℕ) → n % 2 ^ (k + 1) ≡ (n / 2 ^ k % 2) * 2 ^ k + n % 2 ^ k
+one-more n k = ap (λ (width : ℕ). n % 2 ^ width) (add-one k) ∙ low-more n k
+
+-- the space of a bit
+abbrev space : ℕ → ℕ
+space digit = cond (eqb digit 1) 1690 560
+
+-- a pair of durations adds the bit k of n to those below it
+bit-read
+    : (k n digit x y : ℕ) → n / 2 ^ k % 2 ≡ digit → 560 ≤ x + 28 → x ≤ 560 + 28 → space digit ≤ y + 28 → y ≤ space digit + 28
+    → fromReceiving k (placeAt 1 (x + y)) (n % 2 ^ k) ≡ next (afterBit k) (n % 2 ^ (k + 1))
+bit-read k n zero x y q h₁ h₂ h₃ h₄ =
+    let same : n % 2 ^ (k + 1) ≡ n % 2 ^ k = one-more n k ∙ rw q (omega arith) in
+    rw (is-zero (x + y) (omega arith) (omega arith), same)
+bit-read k n (suc zero) x y q h₁ h₂ h₃ h₄ =
+    let one : bitOr (n % 2 ^ k) (2 ^ k) ≡ n % 2 ^ (k + 1) =
+    ap (bitOr (n % 2 ^ k)) (sym (one-mul (2 ^ k))) ∙ or-shifted-r 1 k (n % 2 ^ k) (mod-lt n (pow-pos k))
+    ∙ sym (one-more n k ∙ ap (λ (digit : ℕ). digit * 2 ^ k + n % 2 ^ k) q) in
+    rw (is-one (x + y) (omega arith) (omega arith)) (ap (next (afterBit k)) one)
+bit-read k n (suc (suc digit)) x y q h₁ h₂ h₃ h₄ = absurd (omega arith)
+
+-- ---- the bits of a frame, one after another
+
+-- nothing is reported up to the command read off the bits n, and it is the last edge's
+abbrev Wanted : ℕ → NecMemory → List ℕ → Type 0
+Wanted n m durations = Goes works (Reports works (command.Nec (unpackOf n false)) 0) m true durations
+
+goes-on : (k n : ℕ) {bits : ℕ} (durations : List ℕ) → k < 31 → Wanted n (at (Receiving (k + 1)) bits 0) durations → Wanted n (at (afterBit k) bits 0) durations
+goes-on k n durations h g = rw (ne-eqb k 31 (omega arith)) g
+
+-- the falling edge saves its duration, and the rising one reads the sum
+bit-edges
+    : (k n x y : ℕ) {bits saved : ℕ} (durations : List ℕ) (w : ℕ) → k ≤ 31 → bits ≡ n % 2 ^ k
+    → 560 ≤ x + 28 → x ≤ 560 + 28 → space (n / 2 ^ k % 2) ≤ y + 28 → y ≤ space (n / 2 ^ k % 2) + 28
+    → Wanted w (at (afterBit k) (n % 2 ^ (k + 1)) 0) durations → Wanted w (at (Receiving k) bits saved) (x ∷ y ∷ durations)
+unfolding stepIn
+bit-edges k n x y durations w h e h₁ h₂ h₃ h₄ g =
+    let read = bit-read k n _ x y refl h₁ h₂ h₃ h₄ in
+    onward works _ true x _ (receives k h)
+    (onward works _ false y _ (receives k h) (rw (e, read) g))
+
+-- all 32 bits are gathered: the command is reported
+ended : (k n : ℕ) → k ≡ 31 → n < 2 ^ 32 → Wanted n (at (afterBit k) (n % 2 ^ (k + 1)) 0) []
+unfolding runReports alternating
+ended k n last fits = rw (last, mod-eq-of-lt fits) (here works refl)
+
+sent
+    : (left k n : ℕ) {bits saved : ℕ} (durations : List ℕ) → suc left + k ≡ 32 → n < 2 ^ 32 → bits ≡ n % 2 ^ k
+    → Near 28 (pairsFrom 560 560 1690 n (suc left) k) durations → Wanted n (at (Receiving k) bits saved) durations
+unfolding pairsFrom
+sent zero k n durations f fits e (more {came = x} h₁ h₂ (more {came = y} h₃ h₄ none)) =
+    bit-edges k n x y [] n (omega arith) e h₁ h₂ h₃ h₄ (ended k n (omega arith) fits)
+sent (suc left) k n durations f fits e (more {came = x} h₁ h₂ (more {came = y} {restCame = rest} h₃ h₄ near)) =
+    bit-edges k n x y rest n (omega arith) e h₁ h₂ h₃ h₄
+    (goes-on k n rest (omega arith) (sent left (k + 1) n rest (omega arith) fits refl near))
+
+-- ---- the head, and the whole
+
+headed : (n bits : ℕ) (durations : List ℕ) → n < 2 ^ 32 → Near 28 (drop 1 (frameOf n 1000000)) durations → Wanted n (at Init bits 0) durations
+unfolding frameOf stepIn
+headed n bits durations fits (more {came = x} h₁ h₂ (more {came = y} {restCame = rest} h₃ h₄ near)) =
+    onward works _ true x _ waits
+    (onward works _ false y _ waits (rw (is-sync (x + y) (omega arith) (omega arith)) (sent 31 0 n rest refl fits (omega arith) near)))
+
+-- what any earlier edges leave has the spans of 1 MHz
+with-spans : (earlier : List Edge) → decoderAfter (newAt 1000000 .decoder) earlier ≡ of (decoderAfter (newAt 1000000 .decoder) earlier .memory)
+with-spans earlier =
+    after-keeps edgeAfter (λ d. d ≡ of (d .memory))
+    (λ d e h. ap (λ (s : NecDecoder). record { spans = s .spans; memory = edgeAfter d e .memory }) h)
+    (newAt 1000000 .decoder) earlier refl
+
+-- The first edge ends in no span: the receiver waits in Init after it, and what it reported may be the broken frame's error.
+pub record Opened (m : NecMemory) (gap : ℕ) : Type 0 where
+  pub first : Report
+  pub allowed : NothingOrData first
+  pub bits : ℕ
+  pub told : edgeReport (of m) (edge true gap) ≡ first
+  pub kept : edgeAfter (of m) (edge true gap) ≡ of (at Init bits 0)
+
+lost : (m : NecMemory) (gap : ℕ) → 14445 < gap → stepIn low high m true gap ≡ memoryOf (nextOf (m .state) 8 (m .bits)) 0
+unfolding stepIn
+lost m gap g = rw (is-none (m .saved + gap) (omega arith))
+
+opened : (m : NecMemory) (state : NecState) (gap : ℕ) → m .state ≡ state → reachable state ≡ true → 14445 < gap → Opened m gap
+opened m Init gap e h g = record { first = report.Nothing; allowed = nothing; bits = m .bits; told = told; kept = kept }
+  where
+    after : stepIn low high m true gap ≡ at Init (m .bits) 0
+    after = lost m gap g ∙ ap (λ (state : NecState). memoryOf (nextOf state 8 (m .bits)) 0) e
+
+    told : edgeReport (of m) (edge true gap) ≡ report.Nothing
+    told = works .taken-report m true gap (ap pastEnd e) ∙ ap (works .told) after
+
+    kept : edgeAfter (of m) (edge true gap) ≡ of (at Init (m .bits) 0)
+    kept = works .taken-after m true gap (ap pastEnd e) ∙ ap (λ (m : NecMemory). of (works .kept m)) after
+opened m (Receiving k) gap e h g = record { first = report.Error Data; allowed = broken; bits = m .bits; told = told; kept = kept }
+  where
+    in-reach : pastEnd (m .state) ≡ false
+    in-reach = ap pastEnd e ∙ reachable-in-reach (Receiving k) h
+
+    after : stepIn low high m true gap ≡ at (Error Data) (m .bits) 0
+    after = lost m gap g ∙ ap (λ (state : NecState). memoryOf (nextOf state 8 (m .bits)) 0) e
+
+    told : edgeReport (of m) (edge true gap) ≡ report.Error Data
+    told = works .taken-report m true gap in-reach ∙ ap (works .told) after
+
+    kept : edgeAfter (of m) (edge true gap) ≡ of (at Init (m .bits) 0)
+    kept = works .taken-after m true gap in-reach ∙ ap (λ (m : NecMemory). of (works .kept m)) after
+opened m Done gap e h g = let z : _≡_ {A = ℕ} 0 1 = cc in absurd (omega arith)
+opened m RepeatDone gap e h g = let z : _≡_ {A = ℕ} 0 1 = cc in absurd (omega arith)
+opened m (Error fault) gap e h g = let z : _≡_ {A = ℕ} 0 1 = cc in absurd (omega arith)
+
+first-and-rest : (n : ℕ) → length (frameOf n 1000000) ≡ suc (length (drop 1 (frameOf n 1000000)))
+unfolding frameOf
+first-and-rest n = refl
+
+pub nec-heard : EveryNecHeard
+unfolding Heard
+nec-heard addr cmd a c earlier gap durations silent near =
+    let sent : NecCommand = record { addr = addr; cmd = cmd; repeat = false } in
+    let n = packOf sent in
+    let m = decoderAfter (newAt 1000000 .decoder) earlier .memory in
+    let o = opened m (m .state) gap refl (run-reachable 1000000 earlier) silent in
+    let go = headed n (o .bits) durations (nec-fits sent a c) near in
+    let long : length (necFrame sent 1000000) ≡ suc (length durations) = first-and-rest n ∙ ap suc (sym (near-length near)) in (
+      o .first,
+      o .allowed,
+      ap (λ (d : NecDecoder). reportsOf d (alternating true (gap ∷ durations))) (with-spans earlier)
+          ∙ heard works (necFrame sent 1000000) durations gap (of m) (o .first) (command.Nec sent) 0 67 (at Init (o .bits) 0) long (sym (length-frame n 1000000)) (o .told) (o .kept) waits
+          (rw (nec-back sent a c) at go),
+    )

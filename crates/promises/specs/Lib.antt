@@ -1,0 +1,6 @@
+pub mod Heard
+pub mod Send
+pub mod Totals
+pub mod Repeat
+pub mod RepeatShown
+pub mod Starred

@@ -1,0 +1,132 @@
+-- Demand 3 as a call: the frame of a command is sent at 1 MHz to a decoder, whatever its state, and all that it reports is summed up.
+use Prim.Native.Nat.{ℕ, _+_, _-_, _%_, _^_, _≤_, _<_}
+use mathlib.Core.Path.{_≡_}
+use mathlib.Core.Bool.{Bool, true, false, cond}
+use mathlib.Core.List.{List, [], _∷_}
+use lib.Dec.{eqb}
+use lib.ListN.{length, drop}
+use Rattle.commands.specs.declared.Command.{Command}
+use Rattle.commands.specs.declared.Command.the-variants as command
+use Rattle.commands.specs.declared.nec.NecCommand.{NecCommand}
+use Rattle.commands.specs.declared.rc5.Rc5Command.{Rc5Command}
+use Rattle.commands.specs.declared.rc6.Rc6Command.{Rc6Command}
+use Rattle.frames.specs.Frames.{bitSet}
+use Rattle.commands.specs.Command.{protocolOf, valuesOf}
+use Rattle.reports.specs.Reports.{reportNumber, reportValues}
+use Rattle.reports.specs.Run.{Edge}
+use Rattle.reports.specs.declared.Report.{Report}
+use Rattle.reports.specs.declared.Report.the-variants as report
+use Rattle.rc5.specs.Encoder.{rc5Frame}
+use Rattle.rc6.specs.Encoder.{rc6Frame}
+use Rattle.receiver.specs.Decoder.{newAt, reportsOf, decoderAfter}
+use Rattle.receiver.specs.Encoder.{encodeTaken, frameBy}
+use Rattle.receiver.specs.declared.decoder.Decoder.{Decoder}
+use Rattle.promises.specs.Heard.{alternating, Near, Nothing, NothingOrData}
+use Rattle.promises.specs.declared.send.Later.{Later}
+use Rattle.promises.specs.declared.send.Sent.{Sent}
+
+-- a duration as it comes, by the wrongs from it on: the first is added on 32 bits, so that 2^32 - n is a wrong of n below; with none it comes as it was sent
+abbrev pub cameAs : ℕ → List ℕ → ℕ
+cameAs duration [] = duration
+cameAs duration (wrong ∷ wrongs) = (duration + wrong) % 2 ^ 32
+
+-- durations as they come, each by its own wrong
+unfoldable pub wronged : List ℕ → List ℕ → List ℕ
+wronged [] wrongs = []
+wronged (duration ∷ durations) wrongs = cameAs duration wrongs ∷ wronged durations (drop 1 wrongs)
+
+-- a frame's edges: "a rising edge after a silence ..; then the rest of an encoded frame in alternating edges", each with its wrong
+abbrev pub edgesSent : ℕ → List ℕ → List ℕ → List Edge
+edgesSent silence frame wrongs = alternating true (silence ∷ wronged (drop 1 frame) wrongs)
+
+-- no edge behind the first has reported anything
+abbrev pub noneYet : Later
+noneYet = record { edge = 0; report = report.Nothing; others = 0 }
+
+-- the edge `number` reports something: the first such edge is kept with its report, those behind it are counted
+abbrev pub told : Later → ℕ → Report → Later
+told later number something =
+    cond (eqb (later .edge) 0) (record { edge = number; report = something; others = 0 })
+    (record { edge = later .edge; report = later .report; others = later .others + 1 })
+
+-- the edge `number` reports something, or nothing
+abbrev pub noted : Later → ℕ → Report → Later
+noted later number report.Nothing = later
+noted later number (report.Command command) = told later number (report.Command command)
+noted later number (report.Error fault) = told later number (report.Error fault)
+noted later number (report.Refused refusal) = told later number (report.Refused refusal)
+
+-- all reports from the edge `number` on
+unfoldable pub notedAll : Later → ℕ → List Report → Later
+notedAll later number [] = later
+notedAll later number (report ∷ reports) = notedAll (noted later number report) (number + 1) reports
+
+abbrev pub answerOf : Report → Later → Decoder → Sent
+answerOf first later decoder =
+    record { first = first; edge = later .edge; report = later .report; others = later .others; decoder = decoder }
+
+-- all reports of a frame's edges, which are counted from 1: the first one, and what the others come to
+unfoldable pub summaryOf : List Report → Decoder → Sent
+summaryOf [] decoder = answerOf report.Nothing noneYet decoder
+summaryOf (first ∷ reports) decoder = answerOf first (notedAll noneYet 2 reports) decoder
+
+-- a frame is sent to a decoder: the summary of all its reports, and the decoder after them
+abbrev pub heardOf : Decoder → ℕ → List ℕ → List ℕ → Sent
+heardOf decoder silence frame wrongs =
+    let edges = edgesSent silence frame wrongs in
+    summaryOf (reportsOf decoder edges) (decoderAfter decoder edges)
+
+-- refusal 2: "protocol is not .. (encode: not 1, 2, 3)"; no edge came
+abbrev pub sentRefused : ℕ → Decoder → Sent
+sentRefused number decoder = answerOf (report.Refused number) noneYet decoder
+
+-- "at 1 MHz", by protocol number
+unfoldable pub sentOf : Decoder → ℕ → ℕ → ℕ → ℕ → Bool → ℕ → List ℕ → Sent
+sentOf decoder protocol addr cmd start toggle silence wrongs =
+    cond (encodeTaken protocol) (heardOf decoder silence (frameBy protocol 1000000 addr cmd start toggle) wrongs) (sentRefused 2 decoder)
+
+-- ---- "A frame that is sent is heard", of the call
+
+-- what is answered where the command is heard: the first edge reports what `mayReport` allows, the edge `settles` the command, and no other edge anything
+pub record Answered (mayReport : Report → Type 0) (command : Command) (settles : ℕ) (answer : Sent) : Type 0 where
+  pub first : mayReport (answer .first)
+  pub edge : answer .edge ≡ settles
+  pub report : answer .report ≡ report.Command command
+  -- the same in document 01's numbers: no refusal; the protocol's number and the command's values
+  pub told : (reportNumber (answer .report) ≡ 0) × (reportValues (answer .report) ≡ protocolOf command ∷ valuesOf command)
+  pub others : answer .others ≡ 0
+
+-- the decoder was fresh and then had any earlier edges; the silence is over its bound, and no duration is wrong by more than `wrong`
+unfoldable pub SentHeard
+    : (protocol addr cmd start : ℕ) → (toggle : Bool) → (Report → Type 0) → (bound wrong : ℕ) → Command → (settles : ℕ) → Type 0
+SentHeard protocol addr cmd start toggle mayReport bound wrong command settles =
+    let frame = drop 1 (frameBy protocol 1000000 addr cmd start toggle) in
+    (earlier : List Edge) (silence : ℕ) (wrongs : List ℕ) → bound < silence → Near wrong frame (wronged frame wrongs)
+    → Answered mayReport command settles
+    (sentOf (decoderAfter (newAt protocol 1000000 .decoder) earlier) protocol addr cmd start toggle silence wrongs)
+
+-- NEC sends neither a start nor a toggle
+abbrev pub NecSent : NecCommand → Type 0
+NecSent sent = (start : ℕ) (toggle : Bool) → SentHeard 1 (sent .addr) (sent .cmd) start toggle NothingOrData 14445 28 (command.Nec sent) 67
+
+abbrev pub EveryNecSent : Type 0
+EveryNecSent = (addr cmd : ℕ) → addr < 256 → cmd < 256 → NecSent (record { addr = addr; cmd = cmd; repeat = false })
+
+abbrev pub Rc5Sent : Rc5Command → Type 0
+Rc5Sent sent =
+    SentHeard 2 (sent .addr) (sent .cmd) (sent .start) (sent .toggle) Nothing 1955 106 (command.Rc5 sent) (length (rc5Frame sent 1000000))
+
+abbrev pub EveryRc5Sent : Type 0
+EveryRc5Sent =
+    (addr cmd start : ℕ) (toggle : Bool) → addr < 32 → cmd < 64 → 2 ≤ start → start ≤ 3
+    → Rc5Sent (record { addr = addr; cmd = cmd; start = start; toggle = toggle })
+
+-- RC6 sends no start
+abbrev pub Rc6Sent : Rc6Command → Type 0
+Rc6Sent sent =
+    (start : ℕ)
+    → SentHeard 3 (sent .addr) (sent .cmd) start (sent .toggle) Nothing 2983 53 (command.Rc6 sent)
+    (length (rc6Frame sent 1000000) - cond (bitSet (sent .cmd) 0) 0 1)
+
+abbrev pub EveryRc6Sent : Type 0
+EveryRc6Sent = (addr cmd : ℕ) (toggle : Bool) → addr < 256 → cmd < 256 → Rc6Sent (record { addr = addr; cmd = cmd; toggle = toggle })

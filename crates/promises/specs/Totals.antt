@@ -1,0 +1,49 @@
+-- "NEC fresh, through event_total: pair totals": what is reported of them at 1 MHz, however each total is parted into a falling and a rising edge.
+use Prim.Native.Nat.{ℕ, suc, _+_}
+use mathlib.Core.Path.{_≡_}
+use mathlib.Core.Bool.{true, false}
+use mathlib.Core.List.{List, [], _∷_, _++_}
+use lib.ListN.{take, drop}
+use Rattle.commands.specs.declared.Command.the-variants as command
+use Rattle.commands.specs.declared.nec.NecCommand.{NecCommand}
+use Rattle.reports.specs.Run.{Pair, totals, edgesOf}
+use Rattle.reports.specs.declared.Report.{Report}
+use Rattle.reports.specs.declared.Report.the-variants as report
+use Rattle.nec.specs.Decoder as nec
+use Rattle.nec.specs.Encoder.{necFrame}
+
+-- a report for each pair, at its rising edge; the falling edge before it reports nothing
+unfoldable pub atPairs : List Report → List Report
+atPairs [] = []
+atPairs (told ∷ reports) = report.Nothing ∷ told ∷ atPairs reports
+
+unfoldable pub Tells : List ℕ → List Report → Type 0
+Tells pulses reports =
+    (pairs : List Pair) → totals pairs ≡ pulses → nec.reportsOf (nec.newAt 1000000 .decoder) (edgesOf pairs) ≡ atPairs reports
+
+abbrev pub key : ℕ → ℕ → NecCommand
+key addr cmd = record { addr = addr; cmd = cmd; repeat = false }
+
+-- what is reported of a key: it was pressed, it is held
+abbrev pub pressed : ℕ → ℕ → Report
+pressed addr cmd = report.Command (command.Nec (key addr cmd))
+
+abbrev pub held : ℕ → ℕ → Report
+held addr cmd = report.Command (command.Nec (record { addr = addr; cmd = cmd; repeat = true }))
+
+unfoldable pub paired : List ℕ → List ℕ
+paired [] = []
+paired (fall ∷ []) = fall ∷ []
+paired (fall ∷ rise ∷ durations) = (fall + rise) ∷ paired durations
+
+-- the 33 pulses of an encoded frame, the sync and the 32 bits: its first duration stands before the first rising edge and belongs to no pair
+abbrev pub pulsesOf : NecCommand → List ℕ
+pulsesOf sent = paired (drop 1 (necFrame sent 1000000))
+
+-- the same with one wrong pulse: 0 is the sync, and n + 1 is bit n
+abbrev pub brokenAt : ℕ → NecCommand → List ℕ
+brokenAt pulse sent = take pulse (pulsesOf sent) ++ (5000 ∷ drop (suc pulse) (pulsesOf sent))
+
+-- a silence, which reads nothing, and the repeat pulse
+abbrev pub holding : List ℕ
+holding = 40000 ∷ 11250 ∷ []

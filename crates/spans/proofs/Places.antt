@@ -1,0 +1,118 @@
+-- Which place a range of durations reads, as one computed test over the spans: the places before it lie apart from the range, and its own holds it.
+-- The lookup follows the test place by place. And a duration above every high end reads none. Assumes nothing.
+use mathlib.Core.Path.{_≡_, refl, ap, _∙_}
+use mathlib.Core.Bool.{Bool, true, false, _&&_, _||_}
+use mathlib.Core.List.{List}
+use Prim.Native.Nat.{ℕ, zero, suc, _+_, _≤_, _<_}
+use native.Mathlib.Nat.{zero-add}
+use native.Mathlib.Omega.{arith}
+use lib.Dec.{T, leb, ltb, ltb→lt, leb→le}
+use lib.ListN.{getD}
+use borrow.Author.Tests.{le-leb, lt-leb, ltb-true}
+use Rattle.spans.specs.Spans.{within, spansOf}
+use Rattle.spans.specs.Lookup.{lowestFrom, lookupIn, placeOf}
+use Rattle.spans.specs.declared.Found.the-variants.{At, Nothing}
+
+and-false : (x : Bool) → (x && false) ≡ false
+and-false true = refl
+and-false false = refl
+
+pub both : (x y : Bool) → T (x && y) → T x × T y
+both true y t = (tt, t)
+both false y t = absurd t
+
+-- one span: a duration inside it, below it, above it
+module _ (low high duration : ℕ) where
+  inside : low ≤ duration → duration ≤ high → within low duration high ≡ true
+  inside h k = rw (le-leb low duration h, le-leb duration high k)
+
+  below : duration < low → within low duration high ≡ false
+  below h = rw (lt-leb low duration h)
+
+  above : high < duration → within low duration high ≡ false
+  above h = rw (lt-leb duration high h, and-false)
+
+-- a span that lies apart from a range
+abbrev apart : ℕ → ℕ → ℕ → ℕ → Bool
+apart low high least most = ltb most low || ltb high least
+
+outside : (low high least most duration : ℕ) → T (apart low high least most) → least ≤ duration → duration ≤ most → within low duration high ≡ false
+outside low high least most duration t h k = go (ltb most low) refl t
+  where
+    go : (test : Bool) → ltb most low ≡ test → T (test || ltb high least) → within low duration high ≡ false
+    go true e t = below low high duration (omega (arith, ltb-true most low e))
+    go false e t = above low high duration (omega (arith, ltb→lt high least t))
+
+module _ (low high : List ℕ) where
+  -- of the next `left` places from `place` on, every duration of the range reads the one that is `on` further
+  unfoldable pub allRead : (left place on : ℕ) → (least most : ℕ) → Bool
+  allRead zero place on least most = false
+  allRead (suc left) place zero least most = leb (getD low place 0) least && leb most (getD high place 0)
+  allRead (suc left) place (suc on) least most = apart (getD low place 0) (getD high place 0) least most && allRead left (place + 1) on least most
+
+  -- no duration of at least `least` reads any of them
+  unfoldable pub noneReads : (left place : ℕ) → (least : ℕ) → Bool
+  noneReads zero place least = true
+  noneReads (suc left) place least = ltb (getD high place 0) least && noneReads left (place + 1) least
+
+  module _ (least most duration : ℕ) (from : least ≤ duration) (to : duration ≤ most) where
+    reads-lowest : (left place on : ℕ) → T (allRead left place on least most) → lowestFrom low high duration left place ≡ At (place + on)
+    unfolding allRead lowestFrom
+    reads-lowest zero place on t = absurd t
+    reads-lowest (suc left) place zero t =
+        let (a, b) = both (leb (getD low place 0) least) (leb most (getD high place 0)) t in
+        let same : place ≡ place + 0 = omega arith in
+        rw (inside (getD low place 0) (getD high place 0) duration (omega (arith, leb→le (getD low place 0) least a)) (omega (arith, leb→le most (getD high place 0) b)))
+        (ap At same)
+    reads-lowest (suc left) place (suc on) t =
+        let (a, b) = both (apart (getD low place 0) (getD high place 0) least most) (allRead left (place + 1) on least most) t in
+        let same : place + 1 + on ≡ place + suc on = omega arith in
+        rw (outside (getD low place 0) (getD high place 0) least most duration a from to)
+        (reads-lowest left (place + 1) on b ∙ ap At same)
+
+  module _ (least duration : ℕ) (from : least ≤ duration) where
+    ends-lowest : (left place : ℕ) → T (noneReads left place least) → lowestFrom low high duration left place ≡ Nothing
+    unfolding noneReads lowestFrom
+    ends-lowest zero place t = refl
+    ends-lowest (suc left) place t =
+        let (a, b) = both (ltb (getD high place 0) least) (noneReads left (place + 1) least) t in
+        rw (above (getD low place 0) (getD high place 0) duration (omega (arith, ltb→lt (getD high place 0) least a)))
+        (ends-lowest left (place + 1) b)
+
+  -- "above 32 bits it is simply no span": where no end is as large
+  module _ (duration : ℕ) (over : (place : ℕ) → getD high place 0 < duration) where
+    above-lowest : (left place : ℕ) → lowestFrom low high duration left place ≡ Nothing
+    unfolding lowestFrom
+    above-lowest zero place = refl
+    above-lowest (suc left) place = rw (above (getD low place 0) (getD high place 0) duration (over place)) (above-lowest left (place + 1))
+
+    pub above-none : lookupIn low high duration ≡ Nothing
+    above-none = above-lowest 8 0
+
+-- ---- at 1 MHz
+
+-- the place that a duration reads; 8 is none
+abbrev pub placeAt : ℕ → ℕ → ℕ
+placeAt protocol duration =
+    let spans = spansOf protocol 1000000 .spans in
+    placeOf (lookupIn (spans .low) (spans .high) duration)
+
+abbrev pub readsAt : ℕ → ℕ → ℕ → ℕ → Bool
+readsAt protocol place least most =
+    let spans = spansOf protocol 1000000 .spans in
+    allRead (spans .low) (spans .high) 8 0 place least most
+
+abbrev pub endsAt : ℕ → ℕ → Bool
+endsAt protocol least =
+    let spans = spansOf protocol 1000000 .spans in
+    noneReads (spans .low) (spans .high) 8 0 least
+
+pub reads-place : (protocol place least most duration : ℕ) → T (readsAt protocol place least most) → least ≤ duration → duration ≤ most → placeAt protocol duration ≡ place
+reads-place protocol place least most duration t from to =
+    let spans = spansOf protocol 1000000 .spans in
+    ap placeOf (reads-lowest (spans .low) (spans .high) least most duration from to 8 0 place t) ∙ zero-add place
+
+pub ends-place : (protocol least duration : ℕ) → T (endsAt protocol least) → least ≤ duration → placeAt protocol duration ≡ 8
+ends-place protocol least duration t from =
+    let spans = spansOf protocol 1000000 .spans in
+    ap placeOf (ends-lowest (spans .low) (spans .high) least duration from 8 0 t)
