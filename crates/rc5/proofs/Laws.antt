@@ -11,9 +11,9 @@ use borrow.Author.Tests.{leb-true, le-leb, le-ltb}
 use Rattle.spans.specs.Lookup.{lookupIn, placeOf}
 use Rattle.reports.specs.Run.{Edge}
 use Rattle.reports.specs.declared.Fault.{Fault}
-use Rattle.reports.specs.declared.Report.{Report}
 use Rattle.reports.specs.declared.Report.the-variants as report
 use Rattle.reports.proofs.Run.{after-keeps}
+use Rattle.reports.proofs.NoError.{errs, never}
 use Rattle.reports.proofs.Either.{either}
 use Rattle.rc5.specs.Decoder.{pastEnd, reachable, none, memoryOf, ticked, afterBit, nextOf, stepIn, stood, settled, eventIn, totalIn, newAt, eventOf, resetIn, eventTotal, edgeReport, edgeAfter, decoderAfter}
 use Rattle.rc5.specs.declared.decoder.Rc5State.{Rc5State}
@@ -72,24 +72,12 @@ settled-reachable m (Data n) e h = simp e h
 settled-reachable m Done e h = simp e
 settled-reachable m (Error fault) e h = simp e
 
-abbrev errs : Report → Bool
-errs report.Nothing = false
-errs (report.Command command) = false
-errs (report.Error fault) = true
-errs (report.Refused number) = false
-
 settled-no-error
     : (m : Rc5Memory) (state : Rc5State) → m .state ≡ state → sound state ≡ true → errs (settled (stood m) .report) ≡ false
 settled-no-error m Idle e h = simp e
 settled-no-error m (Data n) e h = simp e
 settled-no-error m Done e h = simp e
 settled-no-error m (Error fault) e h = simp e (sym h)
-
-never : {r : Report} {fault : Fault} → errs r ≡ false → r ≡ report.Error fault → ⊥
-never h e =
-    let q = rw e at h in
-    let z : _≡_ {A = ℕ} 0 1 = cc in
-    omega arith
 
 ticked-sound : (m : Rc5Memory) (place : ℕ) → Sound m → Sound (ticked m place)
 ticked-sound m place h = either Sound (eqb place none) refl h

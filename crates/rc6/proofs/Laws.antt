@@ -45,7 +45,7 @@ SoundAt state = sound state ≡ true
 abbrev pub Sound : Rc6Memory → Type 0
 Sound m = SoundAt (m .state)
 
-reachable-sound : (state : Rc6State) → reachable state ≡ true → SoundAt state
+pub reachable-sound : (state : Rc6State) → reachable state ≡ true → SoundAt state
 reachable-sound Idle h = refl
 reachable-sound Leading h = refl
 reachable-sound LeadingPause h = refl
@@ -55,7 +55,7 @@ reachable-sound (Data n) h = h
 reachable-sound Done h = refl
 reachable-sound (Error fault) h = h
 
-sound-in-reach : (state : Rc6State) → SoundAt state → pastEnd state ≡ false
+pub sound-in-reach : (state : Rc6State) → SoundAt state → pastEnd state ≡ false
 sound-in-reach Idle h = refl
 sound-in-reach Leading h = refl
 sound-in-reach LeadingPause h = refl

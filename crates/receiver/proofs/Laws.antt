@@ -1,12 +1,13 @@
--- A decoder by number answers as the protocol's own decoder does: at each call, and over any run of edges. No event changes its spans or its protocol.
--- Each is by computation, a run by induction on its edges. Assumes nothing.
-use mathlib.Core.Path.{_≡_, refl, ap}
+-- No event changes a decoder's spans or its protocol. A decoder by number answers as the protocol's own: at each call, and over any run of edges.
+-- At a call each is by computation, `Own` once for all five; a run is by the law of `reports` on runs that answer alike. Assumes nothing.
+use mathlib.Core.Path.{_≡_, refl}
 use mathlib.Core.Bool.{Bool}
-use mathlib.Core.List.{List, [], _∷_}
+use mathlib.Core.List.{List}
 use Prim.Native.Nat.{ℕ}
-use Rattle.spans.specs.declared.Spans.{Spans}
-use Rattle.spans.specs.Spans.{spansOf}
-use Rattle.reports.specs.Run.{Edge, runReports, runAfter}
+use Rattle.reports.specs.Run.{Edge}
+use Rattle.reports.specs.declared.Status.{Status}
+use Rattle.reports.specs.declared.Report.{Report}
+use Rattle.reports.proofs.Run.{reports-alike, after-alike}
 use Rattle.nec.specs.Decoder as nec
 use Rattle.nec.specs.declared.decoder.NecDecoder.{NecDecoder}
 use Rattle.rc5.specs.Decoder as rc5
@@ -20,19 +21,9 @@ use Rattle.denon.specs.declared.decoder.DenonDecoder.{DenonDecoder}
 use Rattle.receiver.specs.declared.decoder.Memory.{Memory}
 use Rattle.receiver.specs.declared.decoder.Memory.the-variants.{Nec, Rc5, Rc6, Sbp, Denon}
 use Rattle.receiver.specs.declared.decoder.Decoder.{Decoder}
-use Rattle.receiver.specs.Decoder.{eventIn, totalIn, newAt, eventOf, commandIn, resetIn, eventTotal, reportsOf, decoderAfter}
+use Rattle.receiver.specs.Decoder.{eventIn, totalIn, newAt, eventOf, commandIn, resetIn, eventTotal, edgeReport, edgeAfter, reportsOf, decoderAfter}
 
-abbrev decoder : Spans → Memory → Decoder
-decoder spans memory = record { spans = spans; memory = memory }
-
-pub event-keeps-spans : (d : Decoder) (rising : Bool) (duration : ℕ) → eventOf d rising duration .decoder .spans ≡ d .spans
-event-keeps-spans d rising duration = refl
-
-pub event-total-keeps-spans : (d : Decoder) (rising : Bool) (duration : ℕ) → eventTotal d rising duration .decoder .spans ≡ d .spans
-event-total-keeps-spans d rising duration = refl
-
-pub reset-keeps-spans : (d : Decoder) → resetIn d .spans ≡ d .spans
-reset-keeps-spans d = refl
+-- ---- what no event changes
 
 -- document 01's number of a memory's protocol
 abbrev pub protocolOf : Memory → ℕ
@@ -42,179 +33,113 @@ protocolOf (Rc6 m) = 3
 protocolOf (Sbp m) = 4
 protocolOf (Denon m) = 5
 
-pub event-keeps-protocol : (d : Decoder) (rising : Bool) (duration : ℕ) → protocolOf (eventOf d rising duration .decoder .memory) ≡ protocolOf (d .memory)
-unfolding eventIn
-event-keeps-protocol d rising duration = go (d .memory)
-  where
-    go : (m : Memory) → protocolOf (eventIn (d .spans .low) (d .spans .high) m rising duration .memory) ≡ protocolOf m
-    go (Nec m) = refl
-    go (Rc5 m) = refl
-    go (Rc6 m) = refl
-    go (Sbp m) = refl
-    go (Denon m) = refl
+module _ (d : Decoder) (rising : Bool) (duration : ℕ) where
+  pub event-keeps-spans : eventOf d rising duration .decoder .spans ≡ d .spans
+  event-keeps-spans = refl
 
-pub event-total-keeps-protocol : (d : Decoder) (rising : Bool) (duration : ℕ) → protocolOf (eventTotal d rising duration .decoder .memory) ≡ protocolOf (d .memory)
-unfolding totalIn
-event-total-keeps-protocol d rising duration = go (d .memory)
-  where
-    go : (m : Memory) → protocolOf (totalIn (d .spans .low) (d .spans .high) m rising duration .memory) ≡ protocolOf m
-    go (Nec m) = refl
-    go (Rc5 m) = refl
-    go (Rc6 m) = refl
-    go (Sbp m) = refl
-    go (Denon m) = refl
+  pub event-total-keeps-spans : eventTotal d rising duration .decoder .spans ≡ d .spans
+  event-total-keeps-spans = refl
 
--- ---- 1: the number's decoder is Nec's own
+  keeps-protocol
+      : (m : Memory)
+      → (protocolOf (eventIn (d .spans .low) (d .spans .high) m rising duration .memory) ≡ protocolOf m)
+      × (protocolOf (totalIn (d .spans .low) (d .spans .high) m rising duration .memory) ≡ protocolOf m)
+  unfolding eventIn totalIn
+  keeps-protocol (Nec m) = (refl, refl)
+  keeps-protocol (Rc5 m) = (refl, refl)
+  keeps-protocol (Rc6 m) = (refl, refl)
+  keeps-protocol (Sbp m) = (refl, refl)
+  keeps-protocol (Denon m) = (refl, refl)
 
+  pub event-keeps-protocol : protocolOf (eventOf d rising duration .decoder .memory) ≡ protocolOf (d .memory)
+  event-keeps-protocol = keeps-protocol (d .memory) .0
+
+  pub event-total-keeps-protocol : protocolOf (eventTotal d rising duration .decoder .memory) ≡ protocolOf (d .memory)
+  event-total-keeps-protocol = keeps-protocol (d .memory) .1
+
+pub reset-keeps-spans : (d : Decoder) → resetIn d .spans ≡ d .spans
+reset-keeps-spans d = refl
+
+-- ---- the decoder by number is the protocol's own
+
+-- a protocol's own decoder, as one by number
 abbrev pub of-nec : NecDecoder → Decoder
-of-nec d = decoder (d .spans) (Nec (d .memory))
-
-pub nec-new : (rate : ℕ) → (newAt 1 rate .decoder ≡ of-nec (nec.newAt rate .decoder)) × (newAt 1 rate .answer ≡ nec.newAt rate .answer)
-nec-new rate = (refl, refl)
-
-pub nec-event
-    : (d : NecDecoder) (rising : Bool) (duration : ℕ)
-    → (eventOf (of-nec d) rising duration .status ≡ nec.eventOf d rising duration .status)
-    × (eventOf (of-nec d) rising duration .decoder ≡ of-nec (nec.eventOf d rising duration .decoder))
-unfolding eventIn
-nec-event d rising duration = (refl, refl)
-
-pub nec-command : (d : NecDecoder) → commandIn (of-nec d) ≡ nec.commandIn d
-nec-command d = refl
-
-pub nec-reset : (d : NecDecoder) → resetIn (of-nec d) ≡ of-nec (nec.resetIn d)
-nec-reset d = refl
-
-pub nec-reports : (d : NecDecoder) (edges : List Edge) → reportsOf (of-nec d) edges ≡ nec.reportsOf d edges
-unfolding totalIn runReports
-nec-reports d [] = refl
-nec-reports d (edge ∷ edges) = ap (λ (rest : List _). nec.edgeReport d edge ∷ rest) (nec-reports (nec.edgeAfter d edge) edges)
-
-pub nec-after : (d : NecDecoder) (edges : List Edge) → decoderAfter (of-nec d) edges ≡ of-nec (nec.decoderAfter d edges)
-unfolding totalIn runAfter
-nec-after d [] = refl
-nec-after d (edge ∷ edges) = nec-after (nec.edgeAfter d edge) edges
-
--- ---- 2: the number's decoder is Rc5's own
+of-nec d = record { spans = d .spans; memory = Nec (d .memory) }
 
 abbrev pub of-rc5 : Rc5Decoder → Decoder
-of-rc5 d = decoder (d .spans) (Rc5 (d .memory))
+of-rc5 d = record { spans = d .spans; memory = Rc5 (d .memory) }
+
+abbrev pub of-rc6 : Rc6Decoder → Decoder
+of-rc6 d = record { spans = d .spans; memory = Rc6 (d .memory) }
+
+abbrev pub of-sbp : SbpDecoder → Decoder
+of-sbp d = record { spans = d .spans; memory = Sbp (d .memory) }
+
+abbrev pub of-denon : DenonDecoder → Decoder
+of-denon d = record { spans = d .spans; memory = Denon (d .memory) }
+
+-- each call of a protocol's own decoder, and of the one by number that `of` makes of it, answers alike
+pub record Own {D E : Type 0} (of : D → Decoder) (event : D → Bool → ℕ → E) (status : E → Status) (after : E → D) (command : D → Report) (reset : D → D)
+    (edge-report : D → Edge → Report) (edge-after : D → Edge → D) : Type 0 where
+  pub status-own : (d : D) (rising : Bool) (duration : ℕ) → eventOf (of d) rising duration .status ≡ status (event d rising duration)
+  pub event-own : (d : D) (rising : Bool) (duration : ℕ) → eventOf (of d) rising duration .decoder ≡ of (after (event d rising duration))
+  pub command-own : (d : D) → commandIn (of d) ≡ command d
+  pub reset-own : (d : D) → resetIn (of d) ≡ of (reset d)
+  pub edge-own : (d : D) (edge : Edge) → (edgeReport (of d) edge ≡ edge-report d edge) × (edgeAfter (of d) edge ≡ of (edge-after d edge))
+
+pub calls-own
+    : Own of-nec nec.eventOf (λ e. e .status) (λ e. e .decoder) nec.commandIn nec.resetIn nec.edgeReport nec.edgeAfter
+    × Own of-rc5 rc5.eventOf (λ e. e .status) (λ e. e .decoder) rc5.commandIn rc5.resetIn rc5.edgeReport rc5.edgeAfter
+    × Own of-rc6 rc6.eventOf (λ e. e .status) (λ e. e .decoder) rc6.commandIn rc6.resetIn rc6.edgeReport rc6.edgeAfter
+    × Own of-sbp sbp.eventOf (λ e. e .status) (λ e. e .decoder) sbp.commandIn sbp.resetIn sbp.edgeReport sbp.edgeAfter
+    × Own of-denon denon.eventOf (λ e. e .status) (λ e. e .decoder) denon.commandIn denon.resetIn denon.edgeReport denon.edgeAfter
+unfolding eventIn totalIn
+calls-own = search
+
+-- a new decoder, and what building it answers
+pub nec-new : (rate : ℕ) → (newAt 1 rate .decoder ≡ of-nec (nec.newAt rate .decoder)) × (newAt 1 rate .answer ≡ nec.newAt rate .answer)
+nec-new rate = (refl, refl)
 
 pub rc5-new : (rate : ℕ) → (newAt 2 rate .decoder ≡ of-rc5 (rc5.newAt rate .decoder)) × (newAt 2 rate .answer ≡ rc5.newAt rate .answer)
 rc5-new rate = (refl, refl)
 
-pub rc5-event
-    : (d : Rc5Decoder) (rising : Bool) (duration : ℕ)
-    → (eventOf (of-rc5 d) rising duration .status ≡ rc5.eventOf d rising duration .status)
-    × (eventOf (of-rc5 d) rising duration .decoder ≡ of-rc5 (rc5.eventOf d rising duration .decoder))
-unfolding eventIn
-rc5-event d rising duration = (refl, refl)
-
-pub rc5-command : (d : Rc5Decoder) → commandIn (of-rc5 d) ≡ rc5.commandIn d
-rc5-command d = refl
-
-pub rc5-reset : (d : Rc5Decoder) → resetIn (of-rc5 d) ≡ of-rc5 (rc5.resetIn d)
-rc5-reset d = refl
-
-pub rc5-reports : (d : Rc5Decoder) (edges : List Edge) → reportsOf (of-rc5 d) edges ≡ rc5.reportsOf d edges
-unfolding totalIn runReports
-rc5-reports d [] = refl
-rc5-reports d (edge ∷ edges) = ap (λ (rest : List _). rc5.edgeReport d edge ∷ rest) (rc5-reports (rc5.edgeAfter d edge) edges)
-
-pub rc5-after : (d : Rc5Decoder) (edges : List Edge) → decoderAfter (of-rc5 d) edges ≡ of-rc5 (rc5.decoderAfter d edges)
-unfolding totalIn runAfter
-rc5-after d [] = refl
-rc5-after d (edge ∷ edges) = rc5-after (rc5.edgeAfter d edge) edges
-
--- ---- 3: the number's decoder is Rc6's own
-
-abbrev pub of-rc6 : Rc6Decoder → Decoder
-of-rc6 d = decoder (d .spans) (Rc6 (d .memory))
-
 pub rc6-new : (rate : ℕ) → (newAt 3 rate .decoder ≡ of-rc6 (rc6.newAt rate .decoder)) × (newAt 3 rate .answer ≡ rc6.newAt rate .answer)
 rc6-new rate = (refl, refl)
-
-pub rc6-event
-    : (d : Rc6Decoder) (rising : Bool) (duration : ℕ)
-    → (eventOf (of-rc6 d) rising duration .status ≡ rc6.eventOf d rising duration .status)
-    × (eventOf (of-rc6 d) rising duration .decoder ≡ of-rc6 (rc6.eventOf d rising duration .decoder))
-unfolding eventIn
-rc6-event d rising duration = (refl, refl)
-
-pub rc6-command : (d : Rc6Decoder) → commandIn (of-rc6 d) ≡ rc6.commandIn d
-rc6-command d = refl
-
-pub rc6-reset : (d : Rc6Decoder) → resetIn (of-rc6 d) ≡ of-rc6 (rc6.resetIn d)
-rc6-reset d = refl
-
-pub rc6-reports : (d : Rc6Decoder) (edges : List Edge) → reportsOf (of-rc6 d) edges ≡ rc6.reportsOf d edges
-unfolding totalIn runReports
-rc6-reports d [] = refl
-rc6-reports d (edge ∷ edges) = ap (λ (rest : List _). rc6.edgeReport d edge ∷ rest) (rc6-reports (rc6.edgeAfter d edge) edges)
-
-pub rc6-after : (d : Rc6Decoder) (edges : List Edge) → decoderAfter (of-rc6 d) edges ≡ of-rc6 (rc6.decoderAfter d edges)
-unfolding totalIn runAfter
-rc6-after d [] = refl
-rc6-after d (edge ∷ edges) = rc6-after (rc6.edgeAfter d edge) edges
-
--- ---- 4: the number's decoder is Sbp's own
-
-abbrev pub of-sbp : SbpDecoder → Decoder
-of-sbp d = decoder (d .spans) (Sbp (d .memory))
 
 pub sbp-new : (rate : ℕ) → (newAt 4 rate .decoder ≡ of-sbp (sbp.newAt rate .decoder)) × (newAt 4 rate .answer ≡ sbp.newAt rate .answer)
 sbp-new rate = (refl, refl)
 
-pub sbp-event
-    : (d : SbpDecoder) (rising : Bool) (duration : ℕ)
-    → (eventOf (of-sbp d) rising duration .status ≡ sbp.eventOf d rising duration .status)
-    × (eventOf (of-sbp d) rising duration .decoder ≡ of-sbp (sbp.eventOf d rising duration .decoder))
-unfolding eventIn
-sbp-event d rising duration = (refl, refl)
-
-pub sbp-command : (d : SbpDecoder) → commandIn (of-sbp d) ≡ sbp.commandIn d
-sbp-command d = refl
-
-pub sbp-reset : (d : SbpDecoder) → resetIn (of-sbp d) ≡ of-sbp (sbp.resetIn d)
-sbp-reset d = refl
-
-pub sbp-reports : (d : SbpDecoder) (edges : List Edge) → reportsOf (of-sbp d) edges ≡ sbp.reportsOf d edges
-unfolding totalIn runReports
-sbp-reports d [] = refl
-sbp-reports d (edge ∷ edges) = ap (λ (rest : List _). sbp.edgeReport d edge ∷ rest) (sbp-reports (sbp.edgeAfter d edge) edges)
-
-pub sbp-after : (d : SbpDecoder) (edges : List Edge) → decoderAfter (of-sbp d) edges ≡ of-sbp (sbp.decoderAfter d edges)
-unfolding totalIn runAfter
-sbp-after d [] = refl
-sbp-after d (edge ∷ edges) = sbp-after (sbp.edgeAfter d edge) edges
-
--- ---- 5: the number's decoder is Denon's own
-
-abbrev pub of-denon : DenonDecoder → Decoder
-of-denon d = decoder (d .spans) (Denon (d .memory))
-
 pub denon-new : (rate : ℕ) → (newAt 5 rate .decoder ≡ of-denon (denon.newAt rate .decoder)) × (newAt 5 rate .answer ≡ denon.newAt rate .answer)
 denon-new rate = (refl, refl)
 
-pub denon-event
-    : (d : DenonDecoder) (rising : Bool) (duration : ℕ)
-    → (eventOf (of-denon d) rising duration .status ≡ denon.eventOf d rising duration .status)
-    × (eventOf (of-denon d) rising duration .decoder ≡ of-denon (denon.eventOf d rising duration .decoder))
-unfolding eventIn
-denon-event d rising duration = (refl, refl)
+-- the reports of a run
+pub nec-reports : (d : NecDecoder) (edges : List Edge) → reportsOf (of-nec d) edges ≡ nec.reportsOf d edges
+nec-reports = reports-alike edgeReport edgeAfter of-nec (calls-own .0 .edge-own)
 
-pub denon-command : (d : DenonDecoder) → commandIn (of-denon d) ≡ denon.commandIn d
-denon-command d = refl
+pub rc5-reports : (d : Rc5Decoder) (edges : List Edge) → reportsOf (of-rc5 d) edges ≡ rc5.reportsOf d edges
+rc5-reports = reports-alike edgeReport edgeAfter of-rc5 (calls-own .1 .edge-own)
 
-pub denon-reset : (d : DenonDecoder) → resetIn (of-denon d) ≡ of-denon (denon.resetIn d)
-denon-reset d = refl
+pub rc6-reports : (d : Rc6Decoder) (edges : List Edge) → reportsOf (of-rc6 d) edges ≡ rc6.reportsOf d edges
+rc6-reports = reports-alike edgeReport edgeAfter of-rc6 (calls-own .2 .edge-own)
+
+pub sbp-reports : (d : SbpDecoder) (edges : List Edge) → reportsOf (of-sbp d) edges ≡ sbp.reportsOf d edges
+sbp-reports = reports-alike edgeReport edgeAfter of-sbp (calls-own .3 .edge-own)
 
 pub denon-reports : (d : DenonDecoder) (edges : List Edge) → reportsOf (of-denon d) edges ≡ denon.reportsOf d edges
-unfolding totalIn runReports
-denon-reports d [] = refl
-denon-reports d (edge ∷ edges) = ap (λ (rest : List _). denon.edgeReport d edge ∷ rest) (denon-reports (denon.edgeAfter d edge) edges)
+denon-reports = reports-alike edgeReport edgeAfter of-denon (calls-own .4 .edge-own)
+
+-- the decoder after a run
+pub nec-after : (d : NecDecoder) (edges : List Edge) → decoderAfter (of-nec d) edges ≡ of-nec (nec.decoderAfter d edges)
+nec-after = after-alike edgeReport edgeAfter of-nec (calls-own .0 .edge-own)
+
+pub rc5-after : (d : Rc5Decoder) (edges : List Edge) → decoderAfter (of-rc5 d) edges ≡ of-rc5 (rc5.decoderAfter d edges)
+rc5-after = after-alike edgeReport edgeAfter of-rc5 (calls-own .1 .edge-own)
+
+pub rc6-after : (d : Rc6Decoder) (edges : List Edge) → decoderAfter (of-rc6 d) edges ≡ of-rc6 (rc6.decoderAfter d edges)
+rc6-after = after-alike edgeReport edgeAfter of-rc6 (calls-own .2 .edge-own)
+
+pub sbp-after : (d : SbpDecoder) (edges : List Edge) → decoderAfter (of-sbp d) edges ≡ of-sbp (sbp.decoderAfter d edges)
+sbp-after = after-alike edgeReport edgeAfter of-sbp (calls-own .3 .edge-own)
 
 pub denon-after : (d : DenonDecoder) (edges : List Edge) → decoderAfter (of-denon d) edges ≡ of-denon (denon.decoderAfter d edges)
-unfolding totalIn runAfter
-denon-after d [] = refl
-denon-after d (edge ∷ edges) = denon-after (denon.edgeAfter d edge) edges
+denon-after = after-alike edgeReport edgeAfter of-denon (calls-own .4 .edge-own)

@@ -1,11 +1,31 @@
 // A decoder of any protocol, by its number. Each call is the protocol's own, over the memory that stands in the enum.
+use denon::decoder::DenonEventIn;
 use denon::decoder::DenonMemory;
+use denon::decoder::DenonTotalIn;
+use denon::decoder::event_in as denon_event;
+use denon::decoder::total_in as denon_total;
+use nec::decoder::NecEventIn;
 use nec::decoder::NecMemory;
+use nec::decoder::NecTotalIn;
+use nec::decoder::event_in as nec_event;
+use nec::decoder::total_in as nec_total;
+use rc5::decoder::Rc5EventIn;
 use rc5::decoder::Rc5Memory;
+use rc5::decoder::Rc5TotalIn;
+use rc5::decoder::event_in as rc5_event;
+use rc5::decoder::total_in as rc5_total;
+use rc6::decoder::Rc6EventIn;
 use rc6::decoder::Rc6Memory;
+use rc6::decoder::Rc6TotalIn;
+use rc6::decoder::event_in as rc6_event;
+use rc6::decoder::total_in as rc6_total;
 use reports::Report;
 use reports::Status;
+use sbp::decoder::SbpEventIn;
 use sbp::decoder::SbpMemory;
+use sbp::decoder::SbpTotalIn;
+use sbp::decoder::event_in as sbp_event;
+use sbp::decoder::total_in as sbp_total;
 use spans::Answer;
 use spans::Spans;
 ghost use mathlib.Core.Path.{_≡_};
@@ -103,49 +123,29 @@ pub fn event_in<'a>(
 {
     match memory {
         Memory::Nec(m) => {
-            let event = nec::decoder::event_in(low, high, m, rising, duration);
-            let status = event.status;
-            let after = event.memory;
-            EventIn {
-                status,
-                memory: Memory::Nec(after),
-            }
+            let NecEventIn { status, memory } = nec_event(low, high, m, rising, duration);
+            let memory = Memory::Nec(memory);
+            EventIn { status, memory }
         }
         Memory::Rc5(m) => {
-            let event = rc5::decoder::event_in(low, high, m, rising, duration);
-            let status = event.status;
-            let after = event.memory;
-            EventIn {
-                status,
-                memory: Memory::Rc5(after),
-            }
+            let Rc5EventIn { status, memory } = rc5_event(low, high, m, rising, duration);
+            let memory = Memory::Rc5(memory);
+            EventIn { status, memory }
         }
         Memory::Rc6(m) => {
-            let event = rc6::decoder::event_in(low, high, m, rising, duration);
-            let status = event.status;
-            let after = event.memory;
-            EventIn {
-                status,
-                memory: Memory::Rc6(after),
-            }
+            let Rc6EventIn { status, memory } = rc6_event(low, high, m, rising, duration);
+            let memory = Memory::Rc6(memory);
+            EventIn { status, memory }
         }
         Memory::Sbp(m) => {
-            let event = sbp::decoder::event_in(low, high, m, rising, duration);
-            let status = event.status;
-            let after = event.memory;
-            EventIn {
-                status,
-                memory: Memory::Sbp(after),
-            }
+            let SbpEventIn { status, memory } = sbp_event(low, high, m, rising, duration);
+            let memory = Memory::Sbp(memory);
+            EventIn { status, memory }
         }
         Memory::Denon(m) => {
-            let event = denon::decoder::event_in(low, high, m, rising, duration);
-            let status = event.status;
-            let after = event.memory;
-            EventIn {
-                status,
-                memory: Memory::Denon(after),
-            }
+            let DenonEventIn { status, memory } = denon_event(low, high, m, rising, duration);
+            let memory = Memory::Denon(memory);
+            EventIn { status, memory }
         }
     }
 }
@@ -185,49 +185,29 @@ pub fn total_in<'a>(
 {
     match memory {
         Memory::Nec(m) => {
-            let total = nec::decoder::total_in(low, high, m, rising, duration);
-            let report = total.report;
-            let after = total.memory;
-            TotalIn {
-                report,
-                memory: Memory::Nec(after),
-            }
+            let NecTotalIn { report, memory } = nec_total(low, high, m, rising, duration);
+            let memory = Memory::Nec(memory);
+            TotalIn { report, memory }
         }
         Memory::Rc5(m) => {
-            let total = rc5::decoder::total_in(low, high, m, rising, duration);
-            let report = total.report;
-            let after = total.memory;
-            TotalIn {
-                report,
-                memory: Memory::Rc5(after),
-            }
+            let Rc5TotalIn { report, memory } = rc5_total(low, high, m, rising, duration);
+            let memory = Memory::Rc5(memory);
+            TotalIn { report, memory }
         }
         Memory::Rc6(m) => {
-            let total = rc6::decoder::total_in(low, high, m, rising, duration);
-            let report = total.report;
-            let after = total.memory;
-            TotalIn {
-                report,
-                memory: Memory::Rc6(after),
-            }
+            let Rc6TotalIn { report, memory } = rc6_total(low, high, m, rising, duration);
+            let memory = Memory::Rc6(memory);
+            TotalIn { report, memory }
         }
         Memory::Sbp(m) => {
-            let total = sbp::decoder::total_in(low, high, m, rising, duration);
-            let report = total.report;
-            let after = total.memory;
-            TotalIn {
-                report,
-                memory: Memory::Sbp(after),
-            }
+            let SbpTotalIn { report, memory } = sbp_total(low, high, m, rising, duration);
+            let memory = Memory::Sbp(memory);
+            TotalIn { report, memory }
         }
         Memory::Denon(m) => {
-            let total = denon::decoder::total_in(low, high, m, rising, duration);
-            let report = total.report;
-            let after = total.memory;
-            TotalIn {
-                report,
-                memory: Memory::Denon(after),
-            }
+            let DenonTotalIn { report, memory } = denon_total(low, high, m, rising, duration);
+            let memory = Memory::Denon(memory);
+            TotalIn { report, memory }
         }
     }
 }

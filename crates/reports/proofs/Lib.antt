@@ -1,4 +1,5 @@
 pub mod Run
+pub mod NoError
 pub mod Shift
 pub mod Either
 pub mod Determined

@@ -10,19 +10,19 @@ returns c = simp (c .before .before .before .memory .given .1, c .before .event-
 
 returns-2 : tie.Need-returns-2
 unfolding eventIn
-returns-2 c = simp (c .before .before .before .memory2 .given .1, c .before .event-in2 .ensures)
+returns-2 c = simp (c .before .before .before .memory3 .given .1, c .before .event-in2 .ensures)
 
 returns-3 : tie.Need-returns-3
 unfolding eventIn
-returns-3 c = simp (c .before .before .before .memory3 .given .1, c .before .event-in3 .ensures)
+returns-3 c = simp (c .before .before .before .memory5 .given .1, c .before .event-in3 .ensures)
 
 returns-4 : tie.Need-returns-4
 unfolding eventIn
-returns-4 c = simp (c .before .before .before .memory4 .given .1, c .before .event-in4 .ensures)
+returns-4 c = simp (c .before .before .before .memory7 .given .1, c .before .event-in4 .ensures)
 
 returns-5 : tie.Need-returns-5
 unfolding eventIn
-returns-5 c = simp (c .before .before .before .memory5 .given .1, c .before .event-in5 .ensures)
+returns-5 c = simp (c .before .before .before .memory9 .given .1, c .before .event-in5 .ensures)
 
 pub event-in-spec : {M : Type 1} → statement M
 event-in-spec =

@@ -10,19 +10,19 @@ returns c = simp (c .before .before .before .memory .given .1, c .before .total-
 
 returns-2 : tie.Need-returns-2
 unfolding totalIn
-returns-2 c = simp (c .before .before .before .memory2 .given .1, c .before .total-in2 .ensures)
+returns-2 c = simp (c .before .before .before .memory3 .given .1, c .before .total-in2 .ensures)
 
 returns-3 : tie.Need-returns-3
 unfolding totalIn
-returns-3 c = simp (c .before .before .before .memory3 .given .1, c .before .total-in3 .ensures)
+returns-3 c = simp (c .before .before .before .memory5 .given .1, c .before .total-in3 .ensures)
 
 returns-4 : tie.Need-returns-4
 unfolding totalIn
-returns-4 c = simp (c .before .before .before .memory4 .given .1, c .before .total-in4 .ensures)
+returns-4 c = simp (c .before .before .before .memory7 .given .1, c .before .total-in4 .ensures)
 
 returns-5 : tie.Need-returns-5
 unfolding totalIn
-returns-5 c = simp (c .before .before .before .memory5 .given .1, c .before .total-in5 .ensures)
+returns-5 c = simp (c .before .before .before .memory9 .given .1, c .before .total-in5 .ensures)
 
 pub total-in-spec : {M : Type 1} → statement M
 total-in-spec =
