@@ -36,6 +36,7 @@ mod scene;
 mod slots;
 mod text;
 mod tour;
+mod tour_send;
 
 use std::env;
 use std::ffi::OsString;

@@ -1,83 +1,106 @@
 // What `./run` shows. `./run help` lists the words that it takes.
+mod edges;
 mod frame_table;
+mod parts;
 mod report_text;
+mod send_table;
 mod span_table;
 mod text;
+mod words;
 
-use text::Number;
+use send_table::least_silence;
+use send_table::most_wrong;
 use text::print;
-
-// The number at a place of the arguments; not good where there is none.
-fn number_at(i: usize) -> Number {
-    let mut s = io::buffer();
-    let n = os::arg(i, &mut s);
-    text::number_of(&s[..n])
-}
-
-fn is_word(i: usize, word: &[u8]) -> bool {
-    let mut s = io::buffer();
-    let n = os::arg(i, &mut s);
-    check::same(&s[..n], word)
-}
+use words::number;
+use words::to_u8;
+use words::to_u32;
 
 fn help() {
-    print(b"./run [RATE [DURATION]]\n");
-    print(b"    the spans of all five protocols, and the place of a duration\n");
-    print(b"./run frame PROTOCOL RATE ADDRESS COMMAND [START TOGGLE]\n");
     print(
-        b"    the frame of a command, and what a decoder reports at each edge: 1 NEC, 2 RC5, 3 RC6;\n    START is 3 and TOGGLE 0 where they are left out\n",
+        b"./run
+    a tour: a frame, frames that are heard and frames that are lost, a held key, refusals
+./run spans [RATE [DURATION]]
+    the spans of all five protocols, and the place of a duration
+./run frame PROTOCOL RATE ADDRESS COMMAND [START TOGGLE]
+    the frame of a command, and what a fresh decoder reports at each edge
+./run send PROTOCOL ADDRESS COMMAND [START TOGGLE [SILENCE WRONG]]
+    at 1 MHz, after noise: the frame behind the silence, two durations too long by the wrong, two too short,
+    and so on; what is heard of it. SILENCE and WRONG are at the bound of what is promised where they are left out
+PROTOCOL is 1 for NEC, 2 for RC5, 3 for RC6. START is 3 and TOGGLE 0 where they are left out.",
     );
 }
 
 fn usage() {
-    print(b"not understood: ./run help lists what is\n");
+    print(b"not understood: ./run help lists what is");
 }
 
 fn run_spans(count: usize) {
-    let rate = if count < 2 {
-        text::good(1000000)
-    } else {
-        number_at(1)
-    };
-    let duration = number_at(2);
-    if rate.good && rate.value <= 0xFFFFFFFF && count <= 3 && (count < 3 || duration.good) {
-        span_table::show((rate.value % 0x100000000) as u32, duration);
+    let rate = number(2, count, 1000000, words::LAST);
+    let duration = number(3, count, 0, words::LAST);
+    if count <= 4 && rate | duration <= words::LAST {
+        span_table::show(to_u32(rate), duration, count == 4);
     } else {
         usage();
     }
 }
 
 fn run_frame(count: usize) {
-    let protocol = number_at(2);
-    let rate = number_at(3);
-    let addr = number_at(4);
-    let cmd = number_at(5);
-    let start = if count == 6 {
-        text::good(3)
-    } else {
-        number_at(6)
-    };
-    let toggle = if count == 6 {
-        text::good(0)
-    } else {
-        number_at(7)
-    };
-    if (count == 6 || count == 8)
-        && text::is_at_most(protocol, 0xFFFFFFFF)
-        && text::is_at_most(rate, 0xFFFFFFFF)
-        && text::is_at_most(addr, 255)
-        && text::is_at_most(cmd, 255)
-        && text::is_at_most(start, 255)
-        && text::is_at_most(toggle, 1)
-    {
+    let protocol = number(2, count, 0, words::LAST);
+    let rate = number(3, count, 0, words::LAST);
+    let addr = number(4, count, 0, 255);
+    let cmd = number(5, count, 0, 255);
+    let start = number(6, count, 3, 255);
+    let toggle = number(7, count, 0, 1);
+    let all = protocol | rate | addr | cmd | start | toggle;
+    let mut room = [0u32; 67];
+    if (count == 6 || count == 8) && all <= words::LAST {
         frame_table::show(
-            (protocol.value % 0x100000000) as u32,
-            (rate.value % 0x100000000) as u32,
-            (addr.value % 256) as u8,
-            (cmd.value % 256) as u8,
-            (start.value % 256) as u8,
-            toggle.value == 1,
+            to_u32(protocol),
+            to_u32(rate),
+            to_u8(addr),
+            to_u8(cmd),
+            to_u8(start),
+            toggle == 1,
+            &mut room,
         );
+    } else {
+        usage();
+    }
+}
+
+fn run_send(count: usize) {
+    let protocol = number(2, count, 0, words::LAST);
+    let addr = number(3, count, 0, 255);
+    let cmd = number(4, count, 0, 255);
+    let start = number(5, count, 3, 255);
+    let toggle = number(6, count, 0, 1);
+    let silence = number(7, count, least_silence(protocol), words::LAST);
+    let wrong = number(8, count, most_wrong(protocol), words::LAST);
+    let all = protocol | addr | cmd | start | toggle | silence | wrong;
+    if (count == 5 || count == 7 || count == 9) && all <= words::LAST {
+        send_table::show(
+            to_u32(protocol),
+            to_u8(addr),
+            to_u8(cmd),
+            to_u8(start),
+            toggle == 1,
+            to_u32(silence),
+            to_u32(wrong),
+        );
+    } else {
+        usage();
+    }
+}
+
+fn run_word(count: usize) {
+    if words::is(1, b"spans") {
+        run_spans(count);
+    } else if words::is(1, b"frame") {
+        run_frame(count);
+    } else if words::is(1, b"send") {
+        run_send(count);
+    } else if words::is(1, b"help") {
+        help();
     } else {
         usage();
     }
@@ -85,11 +108,10 @@ fn run_frame(count: usize) {
 
 fn main() {
     let count = os::arg_count();
-    if is_word(1, b"help") {
-        help();
-    } else if is_word(1, b"frame") {
-        run_frame(count);
+    if count <= 1 {
+        parts::show();
     } else {
-        run_spans(count);
+        run_word(count);
     }
+    text::print_newline();
 }

@@ -1,94 +1,86 @@
 // The spans of all five protocols at a rate, and the place of a duration.
 use crate::text;
-use crate::text::Number;
 use crate::text::print;
-use libc::STDOUT_FILENO;
+use crate::text::print_newline;
+use crate::text::print_number;
 use spans::Answer;
 use spans::Found;
 
-fn print_header() {
-    print(
-        b"place             NEC             RC5             RC6             SBP           Denon\n",
-    );
+// How many characters `LOW..HIGH` has.
+fn width_of_two(low: u64, high: u64) -> usize {
+    let a = text::width(low);
+    let b = text::width(high);
+    if a <= 20 {
+        if b <= 20 {
+            return a + 2 + b;
+        }
+    }
+    0
 }
 
-fn print_span(low: u32, high: u32) {
-    text::print_blanks(16, text::width_of_two(low as u64, high as u64));
-    io::print_decimal(STDOUT_FILENO, low as u64);
+fn print_span(low: u64, high: u64) {
+    text::print_blanks(16, width_of_two(low, high));
+    print_number(low);
     print(b"..");
-    io::print_decimal(STDOUT_FILENO, high as u64);
-}
-
-// The span of a protocol at a place.
-fn print_span_at(protocol: u32, rate: u32, place: usize) {
-    let built = spans::spans_of(protocol, rate);
-    let s = built.spans;
-    if place < 8 {
-        print_span(s.low[place], s.high[place]);
-    }
-}
-
-fn print_row(rate: u32, place: usize) {
-    io::print_decimal(STDOUT_FILENO, place as u64);
-    print(b"    ");
-    print_span_at(1, rate, place);
-    print_span_at(2, rate, place);
-    print_span_at(3, rate, place);
-    print_span_at(4, rate, place);
-    print_span_at(5, rate, place);
-    print(b"\n");
-}
-
-fn print_spans(rate: u32) {
-    print(b"Spans at ");
-    io::print_decimal(STDOUT_FILENO, rate as u64);
-    print(b" Hz, in ticks, both ends included\n");
-    print_header();
-    let mut place: usize = 0;
-    while place < 8 {
-        print_row(rate, place);
-        place += 1;
-    }
+    print_number(high);
 }
 
 fn print_found(found: Found) {
     match found {
-        Found::At(place) => {
-            text::print_right(16, place as u64);
-        }
-        Found::Nothing => {
-            text::print_blanks(16, 4);
-            print(b"none");
-        }
+        Found::At(place) => text::print_right(16, place as u64),
+        Found::Nothing => print(b"            none"),
     }
 }
 
-fn print_place(protocol: u32, rate: u32, duration: u64) {
+// The span of a protocol at a place; at place 8 the place of the duration.
+fn print_cell(protocol: u32, rate: u32, place: usize, duration: u64) {
     let built = spans::spans_of(protocol, rate);
     let s = built.spans;
-    print_found(spans::lookup(s, duration));
+    if place < 8 {
+        print_span(s.low[place] as u64, s.high[place] as u64);
+    } else {
+        print_found(spans::lookup(s, duration));
+    }
+}
+
+fn print_row(rate: u32, place: usize, duration: u64) {
+    print_cell(1, rate, place, duration);
+    print_cell(2, rate, place, duration);
+    print_cell(3, rate, place, duration);
+    print_cell(4, rate, place, duration);
+    print_cell(5, rate, place, duration);
+}
+
+fn print_spans(rate: u32) {
+    print(b"Spans at ");
+    print_number(rate as u64);
+    print(
+        b" Hz, in ticks, both ends included\nplace             NEC             RC5             RC6             SBP           Denon",
+    );
+    let mut place: usize = 0;
+    while place < 8 {
+        print_newline();
+        text::print_right(5, place as u64);
+        print_row(rate, place, 0);
+        place += 1;
+    }
 }
 
 fn print_places(rate: u32, duration: u64) {
-    print(b"\nPlace of duration ");
-    io::print_decimal(STDOUT_FILENO, duration);
+    print(b"\n\nPlace of duration ");
+    print_number(duration);
     print(b"\nplace");
-    print_place(1, rate, duration);
-    print_place(2, rate, duration);
-    print_place(3, rate, duration);
-    print_place(4, rate, duration);
-    print_place(5, rate, duration);
-    print(b"\n");
+    print_row(rate, 8, duration);
 }
 
-pub fn show(rate: u32, duration: Number) {
+pub fn show(rate: u32, duration: u64, is_given: bool) {
     let built = spans::spans_of(1, rate);
     let answer = built.answer;
     match answer {
         Answer::Taken => {
             print_spans(rate);
-            if duration.good {
-                print_places(rate, duration.value);
+            if is_given {
+                print_places(rate, duration);
             }
         }
         Answer::Refused(number) => text::print_refused(number),

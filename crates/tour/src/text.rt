@@ -1,52 +1,21 @@
-// Numbers as text: read from an argument, and printed in columns.
+// Text and numbers, printed in columns. What is printed often is a function: a call is proved faster than a text.
 use libc::STDOUT_FILENO;
 
 pub fn print(s: &[u8]) {
     io::write_all(STDOUT_FILENO, s);
 }
 
-pub struct Number {
-    pub value: u64,
-    pub good: bool,
+pub fn print_number(x: u64) {
+    io::print_decimal(STDOUT_FILENO, x);
 }
 
-pub fn good(value: u64) -> Number {
-    Number { value, good: true }
+pub fn print_newline() {
+    print(b"\n");
 }
 
-pub fn is_at_most(n: Number, most: u64) -> bool {
-    n.good && n.value <= most
-}
-
-// One more digit of a number below 2^64.
-fn with_digit(n: Number, b: u8) -> Number {
-    if n.good && b'0' <= b && b <= b'9' {
-        let d = (b - b'0') as u64;
-        if n.value <= (0xFFFFFFFFFFFFFFFF - d) / 10 {
-            return Number {
-                value: n.value * 10 + d,
-                good: true,
-            };
-        }
-    }
-    Number {
-        value: 0,
-        good: false,
-    }
-}
-
-// The number that decimal digits spell.
-pub fn number_of(s: &[u8]) -> Number {
-    let mut n = Number {
-        value: 0,
-        good: 0 < s.len(),
-    };
-    let mut i = 0;
-    while i < s.len() {
-        n = with_digit(n, s[i]);
-        i += 1;
-    }
-    n
+// What stands before a column of text.
+pub fn print_gap() {
+    print(b"  ");
 }
 
 // How many digits a number has.
@@ -55,42 +24,27 @@ pub fn width(x: u64) -> usize {
     io::decimal(x, &mut digits)
 }
 
-// How many characters `LOW..HIGH` has.
-pub fn width_of_two(low: u64, high: u64) -> usize {
-    let a = width(low);
-    let b = width(high);
-    if a <= 20 {
-        if b <= 20 {
-            return a + 2 + b;
-        }
-    }
-    0
+// How many blanks fill a column before so many characters; one where they fill it.
+fn blanks_before(column: usize, used: usize) -> usize {
+    if used < column { column - used } else { 1 }
 }
 
-// Blanks that fill a column, of at most 16, before so many characters.
+// Those blanks, of which 16 are at hand.
 pub fn print_blanks(column: usize, used: usize) {
     let blanks = [b' '; 16];
-    if used <= column {
-        let n = column - used;
-        if n <= 16 {
-            print(&blanks[..n]);
-        }
+    let n = blanks_before(column, used);
+    if n <= 16 {
+        print(&blanks[..n]);
     }
 }
 
 // A number at the right of a column.
 pub fn print_right(column: usize, x: u64) {
     print_blanks(column, width(x));
-    io::print_decimal(STDOUT_FILENO, x);
-}
-
-// A text and a number.
-pub fn print_with(s: &[u8], x: u64) {
-    print(s);
-    io::print_decimal(STDOUT_FILENO, x);
+    print_number(x);
 }
 
 pub fn print_refused(number: u32) {
-    print_with(b"refused ", number as u64);
-    print(b"\n");
+    print(b"refused ");
+    print_number(number as u64);
 }

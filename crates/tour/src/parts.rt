@@ -1,0 +1,135 @@
+// The tour, part by part.
+use crate::edges;
+use crate::frame_table;
+use crate::report_text::print_report;
+use crate::send_table::print_head;
+use crate::send_table::print_line;
+use crate::text::print;
+use nec::decoder::NecMemory;
+use nec::decoder::NecState;
+use receiver::decoder::Decoder;
+use receiver::decoder::Memory;
+use reports::Report;
+
+fn show_frame() {
+    print(
+        b"An infrared receiver, proved: a tour. All of it is at 1 MHz, where a tick is a microsecond.
+A command is shown as nec ADDRESS COMMAND REPEAT, rc5 ADDRESS COMMAND START TOGGLE or rc6 ADDRESS COMMAND TOGGLE.
+
+1. A frame, edge by edge
+The frame of RC5 address 5, command 12, start 3, toggle 0, and what a fresh decoder reports at each of its edges.
+",
+    );
+    let mut room = [0u32; 67];
+    frame_table::show(2, 1000000, 5, 12, 3, false, &mut room);
+}
+
+fn show_heard() {
+    print(
+        b"
+
+2. A frame that is sent is heard
+Noise comes first: a rise after 3000, a fall after 2664, a rise after 889, a fall after 0. Behind the silence the frame rises;
+two of its durations are too long by the wrong, two too short, and so on. At the bounds the command comes, once:
+",
+    );
+    print_head();
+    print_line(1, 4, 8, 3, false, 14446, 28);
+    print_line(2, 5, 12, 3, false, 1956, 106);
+    print_line(3, 5, 12, 3, false, 2984, 53);
+}
+
+fn show_lost() {
+    print(b"\nWith one tick more of wrong these are lost:");
+    print_line(1, 4, 8, 3, false, 14446, 29);
+    print_line(2, 5, 12, 3, false, 1956, 107);
+    print_line(3, 5, 12, 3, false, 2984, 54);
+    print(b"\nWith one tick less of silence, too:");
+    print_line(1, 4, 8, 3, false, 14445, 28);
+    print_line(2, 5, 12, 3, false, 1955, 106);
+    print_line(3, 5, 12, 3, false, 2983, 53);
+}
+
+// Document 01's starred pulses: 13500, eight of 2250, 5000, 11250.
+fn feed_broken() {
+    let durations = [
+        9000u32,
+        4500,
+        560,
+        1690,
+        560,
+        1690,
+        560,
+        1690,
+        560,
+        1690,
+        560,
+        1690,
+        560,
+        1690,
+        560,
+        1690,
+        560,
+        1690,
+        560,
+        4440,
+        9000,
+        2250,
+    ];
+    edges::feed_fresh(1, 1000000, false, 1, &durations);
+}
+
+fn show_held_key() {
+    print(
+        b"
+
+3. Whose command does a held key show?
+An NEC frame breaks after eight bits: a sync of 13500, eight ones of 2250 each, a pulse of 5000. Then the key's repeat comes, of 11250.
+A pulse is a fall and the rise behind it. These edges report something; the repeat shows the bits that came before the break.
+",
+    );
+    edges::print_head();
+    feed_broken();
+}
+
+// An edge, of a record whose bit counter says 32.
+fn report_at_bit_32() -> Report {
+    let built = spans::spans_of(1, 1000000);
+    let spans = built.spans;
+    let memory = Memory::Nec(NecMemory {
+        state: NecState::Receiving(32),
+        bits: 0,
+        saved: 0,
+    });
+    let decoder = Decoder { spans, memory };
+    let total = decoder.event_total(true, 1120);
+    total.report
+}
+
+fn show_refusals() {
+    let mut room = [0u32; 25];
+    print(
+        b"
+
+4. What is bad is refused, by a number
+Nothing that is asked can trip it: each of these calls comes back.
+asked                                                                    answered
+the frame of protocol 6                                                  ",
+    );
+    frame_table::show(6, 1000000, 0, 0, 3, false, &mut room);
+    print(b"\nthe frame of RC5 address 0, command 0, start 3, toggle 0, at 0 Hz        ");
+    frame_table::show(2, 0, 0, 0, 3, false, &mut room);
+    print(b"\nthe same at 1 MHz, into 25 places                                        ");
+    frame_table::show(2, 1000000, 0, 0, 3, false, &mut room);
+    print(b"\nan edge, of a decoder of NEC that is told to be at bit 32                ");
+    print_report(report_at_bit_32());
+}
+
+pub fn show() {
+    show_frame();
+    show_heard();
+    show_lost();
+    show_held_key();
+    show_refusals();
+    print(b"\n\n./run help lists what else can be tried.");
+}
