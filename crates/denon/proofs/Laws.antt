@@ -11,7 +11,7 @@ use Rattle.spans.specs.Lookup.{lookupIn, placeOf}
 use Rattle.reports.specs.Run.{Edge}
 use Rattle.reports.proofs.Run.{after-keeps}
 use Rattle.reports.proofs.Either.{either}
-use Rattle.denon.specs.Decoder.{pastEnd, reachable, fromLast, fromBit, fromData, nextOf, stepIn, stood, settled, eventIn, totalIn, newAt, eventOf, resetIn, eventTotal, edgeAfter, decoderAfter}
+use Rattle.denon.specs.Decoder.{pastEnd, reachable, fromLast, fromBit, fromData, nextOf, stepIn, stood, ruled, eventIn, totalIn, newAt, eventOf, resetIn, eventTotal, edgeAfter, decoderAfter}
 use Rattle.denon.specs.declared.decoder.DenonState.{DenonState}
 use Rattle.denon.specs.declared.decoder.DenonState.the-variants.{Idle, Data, Done}
 use Rattle.denon.specs.declared.decoder.DenonMemory.{DenonMemory}
@@ -50,11 +50,11 @@ reachable-in-reach Idle h = refl
 reachable-in-reach (Data n) h = le-ltb 47 n (leb-true n 47 h)
 reachable-in-reach Done h = refl
 
-settled-reachable
-    : (m : DenonMemory) (state : DenonState) → m .state ≡ state → pastEnd state ≡ false → reachable (settled (stood m) .memory .state) ≡ true
-settled-reachable m Idle e h = simp e
-settled-reachable m (Data n) e h = simp e (le-leb n 47 (ltb-false 47 n h))
-settled-reachable m Done e h = simp e
+ruled-reachable
+    : (m : DenonMemory) (state : DenonState) → m .state ≡ state → pastEnd state ≡ false → reachable (ruled (stood m) .memory .state) ≡ true
+ruled-reachable m Idle e h = simp e
+ruled-reachable m (Data n) e h = simp e (le-leb n 47 (ltb-false 47 n h))
+ruled-reachable m Done e h = simp e
 
 module _ (low high : List ℕ) (m : DenonMemory) (duration : ℕ) where
   step-in-reach : (rising : Bool) → pastEnd (m .state) ≡ false → pastEnd (stepIn low high m rising duration .state) ≡ false
@@ -63,14 +63,14 @@ module _ (low high : List ℕ) (m : DenonMemory) (duration : ℕ) where
   step-in-reach false h = h
 
   -- an edge that is not refused: the rule after the step
-  pub total-taken : (rising : Bool) → pastEnd (m .state) ≡ false → totalIn low high m rising duration ≡ settled (stood (stepIn low high m rising duration))
+  pub total-taken : (rising : Bool) → pastEnd (m .state) ≡ false → totalIn low high m rising duration ≡ ruled (stood (stepIn low high m rising duration))
   unfolding totalIn eventIn
   total-taken rising h = rw h
 
   pub total-reachable : (rising : Bool) → reachable (m .state) ≡ true → reachable (totalIn low high m rising duration .memory .state) ≡ true
   total-reachable rising h =
       let p = reachable-in-reach (m .state) h in
-      rw (total-taken rising p) (settled-reachable (stepIn low high m rising duration) _ refl (step-in-reach rising p))
+      rw (total-taken rising p) (ruled-reachable (stepIn low high m rising duration) _ refl (step-in-reach rising p))
 
 pub fresh-reachable : (rate : ℕ) → reachable (newAt rate .decoder .memory .state) ≡ true
 fresh-reachable rate = refl

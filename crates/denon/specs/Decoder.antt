@@ -114,11 +114,11 @@ abbrev pub resetOf : DenonMemory → DenonMemory
 resetOf m = fresh
 
 -- `event_total`: the rule of `reports`, over event, command and reset
-abbrev pub settled : DenonEventIn → DenonTotalIn
-settled e = record { report = ruleReport commandOf (e .status) (e .memory); memory = ruleAfter resetOf (e .status) (e .memory) }
+abbrev pub ruled : DenonEventIn → DenonTotalIn
+ruled e = record { report = ruleReport commandOf (e .status) (e .memory); memory = ruleAfter resetOf (e .status) (e .memory) }
 
 unfoldable pub totalIn : List ℕ → List ℕ → DenonMemory → Bool → ℕ → DenonTotalIn
-totalIn low high m rising duration = settled (eventIn low high m rising duration)
+totalIn low high m rising duration = ruled (eventIn low high m rising duration)
 
 -- "Every decoder carries its eight spans inside its own state". Refusal 1: the spans are then those of the refused answer
 abbrev pub newAt : ℕ → DenonMade

@@ -1,7 +1,7 @@
 -- A contract leaves no choice open: of the same arguments any two outcomes that its `ensures` clauses allow are one outcome,
 -- the answer and what is left behind every `&mut` that was lent. It is said of the clauses that the source states, at every model.
 --     Determined           two outcomes that the clauses allow are the same
---     Settled              that, and the function meets its clauses
+--     Fixed                that, and the function meets its clauses
 --     one, _&_, both       what a clause tells, what two joined clauses tell, and what two outcomes tell
 --     alike, alike-left    two answers are equal; two answers and what is left behind the first parameter are
 -- Assumes nothing.
@@ -25,8 +25,8 @@ Determined 𝓤 T C =
     (κs : Lfts (T .signature .lifetimes)) (a : Args (T .signature) κs) (g h : C κs a .ghost) (r s : Res (T .signature) κs) (v w : Lasts T κs a)
     → Tells 𝓤 (conj 𝓤 (C κs a .ensures g r (atExit T κs a v)) (C κs a .ensures h s (atExit T κs a w))) ((r ≡ s) × (v ≡ w))
 
-abbrev pub Settled : {M : Type 1} (𝓤 : URA M) (H : Heap 𝓤) (A : Atoms 𝓤) (T : Ended) → Clauses 𝓤 T → Fun 𝓤 → Type 1
-Settled 𝓤 H A T C run = Meets 𝓤 H A (T .signature) run (closing 𝓤 H A T C) × Determined 𝓤 T C
+abbrev pub Fixed : {M : Type 1} (𝓤 : URA M) (H : Heap 𝓤) (A : Atoms 𝓤) (T : Ended) → Clauses 𝓤 T → Fun 𝓤 → Type 1
+Fixed 𝓤 H A T C run = Meets 𝓤 H A (T .signature) run (closing 𝓤 H A T C) × Determined 𝓤 T C
 
 module _ {M : Type 1} {𝓤 : URA M} where
   pub both : {P Q : SProp 𝓤} {φ ψ χ : Type 0} → Tells 𝓤 P φ → Tells 𝓤 Q ψ → (φ → ψ → χ) → Tells 𝓤 (conj 𝓤 P Q) χ

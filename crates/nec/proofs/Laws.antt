@@ -11,7 +11,7 @@ use Rattle.spans.specs.Lookup.{lookupIn, placeOf}
 use Rattle.reports.specs.Run.{Edge}
 use Rattle.reports.proofs.Run.{after-keeps}
 use Rattle.reports.proofs.Either.{either}
-use Rattle.nec.specs.Decoder.{pastEnd, reachable, afterBit, nextOf, stepIn, stood, settled, eventIn, totalIn, newAt, eventOf, resetIn, eventTotal, edgeAfter, decoderAfter}
+use Rattle.nec.specs.Decoder.{pastEnd, reachable, afterBit, nextOf, stepIn, stood, ruled, eventIn, totalIn, newAt, eventOf, resetIn, eventTotal, edgeAfter, decoderAfter}
 use Rattle.nec.specs.declared.decoder.NecState.{NecState}
 use Rattle.nec.specs.declared.decoder.NecState.the-variants.{Init, Receiving, Done, RepeatDone, Error}
 use Rattle.nec.specs.declared.decoder.NecMemory.{NecMemory}
@@ -54,13 +54,13 @@ reachable-in-reach Done h = refl
 reachable-in-reach RepeatDone h = refl
 reachable-in-reach (Error fault) h = refl
 
-settled-reachable
-    : (m : NecMemory) (state : NecState) → m .state ≡ state → pastEnd state ≡ false → reachable (settled (stood m) .memory .state) ≡ true
-settled-reachable m Init e h = simp e
-settled-reachable m (Receiving n) e h = simp e (le-leb n 31 (ltb-false 31 n h))
-settled-reachable m Done e h = simp e
-settled-reachable m RepeatDone e h = simp e
-settled-reachable m (Error fault) e h = simp e
+ruled-reachable
+    : (m : NecMemory) (state : NecState) → m .state ≡ state → pastEnd state ≡ false → reachable (ruled (stood m) .memory .state) ≡ true
+ruled-reachable m Init e h = simp e
+ruled-reachable m (Receiving n) e h = simp e (le-leb n 31 (ltb-false 31 n h))
+ruled-reachable m Done e h = simp e
+ruled-reachable m RepeatDone e h = simp e
+ruled-reachable m (Error fault) e h = simp e
 
 module _ (low high : List ℕ) (m : NecMemory) (duration : ℕ) where
   step-in-reach : (rising : Bool) → pastEnd (m .state) ≡ false → pastEnd (stepIn low high m rising duration .state) ≡ false
@@ -69,14 +69,14 @@ module _ (low high : List ℕ) (m : NecMemory) (duration : ℕ) where
   step-in-reach false h = h
 
   -- an edge that is not refused: the rule after the step
-  pub total-taken : (rising : Bool) → pastEnd (m .state) ≡ false → totalIn low high m rising duration ≡ settled (stood (stepIn low high m rising duration))
+  pub total-taken : (rising : Bool) → pastEnd (m .state) ≡ false → totalIn low high m rising duration ≡ ruled (stood (stepIn low high m rising duration))
   unfolding totalIn eventIn
   total-taken rising h = rw h
 
   pub total-reachable : (rising : Bool) → reachable (m .state) ≡ true → reachable (totalIn low high m rising duration .memory .state) ≡ true
   total-reachable rising h =
       let p = reachable-in-reach (m .state) h in
-      rw (total-taken rising p) (settled-reachable (stepIn low high m rising duration) _ refl (step-in-reach rising p))
+      rw (total-taken rising p) (ruled-reachable (stepIn low high m rising duration) _ refl (step-in-reach rising p))
 
 pub fresh-reachable : (rate : ℕ) → reachable (newAt rate .decoder .memory .state) ≡ true
 fresh-reachable rate = refl

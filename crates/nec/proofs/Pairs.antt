@@ -9,7 +9,7 @@ use Rattle.spans.specs.Lookup.{lookupIn, placeOf}
 use Rattle.reports.specs.Run.{Edge, runReports, Pair, totals, edge, edgesOf}
 use Rattle.reports.specs.declared.Report.{Report}
 use Rattle.reports.specs.declared.Report.the-variants.{Nothing}
-use Rattle.nec.specs.Decoder.{pastEnd, reachable, next, memoryOf, nextOf, stepIn, stood, settled, totalIn, reportsOf}
+use Rattle.nec.specs.Decoder.{pastEnd, reachable, next, memoryOf, nextOf, stepIn, stood, ruled, totalIn, reportsOf}
 use Rattle.nec.specs.declared.decoder.NecState.{NecState}
 use Rattle.nec.specs.declared.decoder.NecState.the-variants.{Init, Receiving, Done, RepeatDone, Error}
 use Rattle.nec.specs.declared.decoder.NecMemory.{NecMemory}
@@ -26,7 +26,7 @@ edgesAt (t ∷ ts) = edge false 0 ∷ edge true t ∷ edgesAt ts
 -- where nothing ends a frame the rule leaves all as it is
 waits
     : (state : NecState) (bits saved : ℕ) → reachable state ≡ true
-    → settled (stood (memoryOf (next state bits) saved)) ≡ record { report = Nothing; memory = memoryOf (next state bits) saved }
+    → ruled (stood (memoryOf (next state bits) saved)) ≡ record { report = Nothing; memory = memoryOf (next state bits) saved }
 waits Init bits saved h = refl
 waits (Receiving n) bits saved h = refl
 waits Done bits saved h = cc
@@ -48,7 +48,7 @@ module _ (low high : List ℕ) where
   rises n fall rise t sum h =
       let e : fall + rise ≡ 0 + t = omega arith in
       total-taken low high (memoryOf n fall) rise true h
-      ∙ ap (λ (d : ℕ). settled (stood (memoryOf (nextOf (n .state) (placeOf (lookupIn low high d)) (n .bits)) 0))) e
+      ∙ ap (λ (d : ℕ). ruled (stood (memoryOf (nextOf (n .state) (placeOf (lookupIn low high d)) (n .bits)) 0))) e
       ∙ sym (total-taken low high (memoryOf n 0) t true h)
 
 abbrev with : NecDecoder → NecMemory → NecDecoder

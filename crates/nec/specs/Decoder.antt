@@ -118,11 +118,11 @@ abbrev pub resetOf : NecMemory → NecMemory
 resetOf m = memoryOf (next Init (m .bits)) 0
 
 -- `event_total`: the rule of `reports`, over event, command and reset
-abbrev pub settled : NecEventIn → NecTotalIn
-settled e = record { report = ruleReport commandOf (e .status) (e .memory); memory = ruleAfter resetOf (e .status) (e .memory) }
+abbrev pub ruled : NecEventIn → NecTotalIn
+ruled e = record { report = ruleReport commandOf (e .status) (e .memory); memory = ruleAfter resetOf (e .status) (e .memory) }
 
 unfoldable pub totalIn : List ℕ → List ℕ → NecMemory → Bool → ℕ → NecTotalIn
-totalIn low high m rising duration = settled (eventIn low high m rising duration)
+totalIn low high m rising duration = ruled (eventIn low high m rising duration)
 
 -- a fresh memory
 abbrev pub fresh : NecMemory

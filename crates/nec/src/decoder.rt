@@ -9,7 +9,7 @@ use spans::Spans;
 ghost use mathlib.Core.Path.{_≡_};
 ghost use mathlib.Core.Bool.{false};
 ghost use Prim.Native.Nat.{_≤_};
-ghost use Rattle.nec.specs.Decoder.{pastEnd, afterBit, fromInit, fromReceiving, nextOf, statusOf, fresh, stepIn, eventIn, commandOf, resetOf, stood, settled, totalIn, newAt, eventOf, commandIn, resetIn, eventTotal};
+ghost use Rattle.nec.specs.Decoder.{pastEnd, afterBit, fromInit, fromReceiving, nextOf, statusOf, fresh, stepIn, eventIn, commandOf, resetOf, stood, ruled, totalIn, newAt, eventOf, commandIn, resetIn, eventTotal};
 
 pub enum NecState {
     Init,
@@ -256,12 +256,12 @@ pub fn reset_of(m: NecMemory) -> NecMemory
 
 // The rule of event_total, after a step.
 fn settle(after: NecMemory) -> NecTotalIn
-    ensures { λ r. ⌜ r ≡ settled (stood after) ⌝ }
+    ensures { λ r. ⌜ r ≡ ruled (stood after) ⌝ }
 {
     let state = after.state;
     let status = status_of(state);
     let report = reports::report_of(status, command_of(after));
-    if reports::settles(status) {
+    if reports::resets(status) {
         let memory = reset_of(after);
         NecTotalIn { report, memory }
     } else {

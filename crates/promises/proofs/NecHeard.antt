@@ -23,7 +23,7 @@ use Rattle.reports.specs.declared.Fault.the-variants.{Data}
 use Rattle.reports.specs.declared.Report.{Report}
 use Rattle.reports.specs.declared.Report.the-variants as report
 use Rattle.reports.proofs.Run.{after-keeps}
-use Rattle.nec.specs.Decoder.{pastEnd, reachable, next, afterBit, nextOf, fromReceiving, memoryOf, stepIn, stood, settled, newAt, edgeReport, edgeAfter, reportsOf, decoderAfter}
+use Rattle.nec.specs.Decoder.{pastEnd, reachable, next, afterBit, nextOf, fromReceiving, memoryOf, stepIn, stood, ruled, newAt, edgeReport, edgeAfter, reportsOf, decoderAfter}
 use Rattle.nec.specs.Encoder.{frameOf, necFrame}
 use Rattle.nec.specs.declared.decoder.NecState.{NecState}
 use Rattle.nec.specs.declared.decoder.NecState.the-variants.{Init, Receiving, Done, RepeatDone, Error}
@@ -54,8 +54,8 @@ works =
       Memory = NecMemory;
       of = of;
       step = stepIn low high;
-      told = λ m. settled (stood m) .report;
-      kept = λ m. settled (stood m) .memory;
+      told = λ m. ruled (stood m) .report;
+      kept = λ m. ruled (stood m) .memory;
       Taken = λ m. pastEnd (m .state) ≡ false;
       taken-report = λ m rising duration h. ap (λ (t : NecTotalIn). t .report) (total-taken low high m duration rising h);
       taken-after = λ m rising duration h. ap (λ (t : NecTotalIn). of (t .memory)) (total-taken low high m duration rising h);

@@ -21,7 +21,7 @@ use Rattle.reports.specs.Run.{Edge, edge, runReports}
 use Rattle.reports.specs.declared.Report.the-variants as report
 use Rattle.reports.proofs.Either.{either}
 use Rattle.reports.proofs.Run.{after-keeps}
-use Rattle.rc5.specs.Decoder.{pastEnd, memoryOf, afterBit, gathered, stepIn, stood, settled, newAt, edgeReport, edgeAfter, decoderAfter}
+use Rattle.rc5.specs.Decoder.{pastEnd, memoryOf, afterBit, gathered, stepIn, stood, ruled, newAt, edgeReport, edgeAfter, decoderAfter}
 use Rattle.rc5.specs.Encoder.{pieceOf, piecesAfter, frameOf, rc5Frame}
 use Rattle.rc5.specs.declared.decoder.Rc5State.the-variants.{Data}
 use Rattle.rc5.specs.declared.decoder.Rc5Memory.{Rc5Memory}
@@ -51,8 +51,8 @@ works =
       Memory = Rc5Memory;
       of = of;
       step = step;
-      told = λ m. settled (stood m) .report;
-      kept = λ m. settled (stood m) .memory;
+      told = λ m. ruled (stood m) .report;
+      kept = λ m. ruled (stood m) .memory;
       Taken = λ m. pastEnd (m .state) ≡ false;
       taken-report = λ m rising duration h. ap (λ (t : Rc5TotalIn). t .report) (total-taken (spans .low) (spans .high) m duration rising h);
       taken-after = λ m rising duration h. ap (λ (t : Rc5TotalIn). of (t .memory)) (total-taken (spans .low) (spans .high) m duration rising h);

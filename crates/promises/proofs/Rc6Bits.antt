@@ -16,7 +16,7 @@ use Rattle.reports.specs.Run.{runReports}
 use Rattle.reports.specs.declared.Status.the-variants as status
 use Rattle.rc6.specs.Encoder.{bitLevels, highestFirst, merged, inTicks}
 use Rattle.rc6.specs.EncoderSteps.{levelOf}
-use Rattle.rc6.specs.Decoder.{pastEnd, memoryOf, stepIn, afterData, statusOf, stood, settled, eventIn, totalIn}
+use Rattle.rc6.specs.Decoder.{pastEnd, memoryOf, stepIn, afterData, statusOf, stood, ruled, eventIn, totalIn}
 use Rattle.rc6.specs.declared.decoder.Rc6State.the-variants.{Data}
 use Rattle.rc6.specs.declared.decoder.Rc6Memory.{Rc6Memory}
 use Rattle.rc6.specs.declared.decoder.Rc6Decoder.{Rc6Decoder}
@@ -46,8 +46,8 @@ works =
       Memory = Rc6Memory;
       of = of;
       step = stepIn lows highs;
-      told = λ m. settled (stood m) .report;
-      kept = λ m. settled (stood m) .memory;
+      told = λ m. ruled (stood m) .report;
+      kept = λ m. ruled (stood m) .memory;
       Taken = λ m. pastEnd (m .state) ≡ false;
       taken-report = λ m rising duration h. ap (λ (t : Rc6TotalIn). t .report) (total-taken lows highs m duration rising h);
       taken-after = λ m rising duration h. ap (λ (t : Rc6TotalIn). of (t .memory)) (total-taken lows highs m duration rising h);

@@ -24,7 +24,7 @@ use Rattle.nec.specs.declared.decoder.NecTotalIn.{NecTotalIn}
 use Rattle.nec.proofs.Laws.{total-taken}
 use Rattle.promises.specs.Repeat.{reads, opens, taken, gatheredAt, Reported}
 use Rattle.promises.specs.Repeat.{OnlySyncClears, NoBitLost, ErrorClearsNothing, CommandClearsNothing, ResetClearsNothing}
-use Rattle.promises.proofs.RepeatPulse.{told, necCommand, ended, framed, receiving, Waits, told-command, told-repeat, told-waiting, told-error, told-framed, settled-framed, settled-ended, settled-bits, nextAt, at-bits, at-past, at-bare, at-waiting, at-framed, at-opens}
+use Rattle.promises.proofs.RepeatPulse.{told, necCommand, ended, framed, receiving, Waits, told-command, told-repeat, told-waiting, told-error, told-framed, ruled-framed, ruled-ended, ruled-bits, nextAt, at-bits, at-past, at-bare, at-waiting, at-framed, at-opens}
 
 -- ---- one edge
 
@@ -51,24 +51,24 @@ module _ (d : NecDecoder) (edge : Edge) where
   refused h = rw h
 
   module _ (h : nec.pastEnd (d .memory .state) ≡ false) where
-    total-settled : total ≡ nec.settled (nec.stood kept)
-    total-settled =
+    total-ruled : total ≡ nec.ruled (nec.stood kept)
+    total-ruled =
         total-taken (d .spans .low) (d .spans .high) (d .memory) (edge .duration) (edge .rising) h
-        ∙ ap (λ (m : NecMemory). nec.settled (nec.stood m)) (stepped (edge .rising))
+        ∙ ap (λ (m : NecMemory). nec.ruled (nec.stood m)) (stepped (edge .rising))
 
     pub reported : nec.edgeReport d edge ≡ told (next .state) (next .bits)
-    reported = ap (λ (t : NecTotalIn). t .report) total-settled
+    reported = ap (λ (t : NecTotalIn). t .report) total-ruled
 
     after-bits : nec.edgeAfter d edge .memory .bits ≡ next .bits
-    after-bits = ap (λ (t : NecTotalIn). t .memory .bits) total-settled ∙ settled-bits kept
+    after-bits = ap (λ (t : NecTotalIn). t .memory .bits) total-ruled ∙ ruled-bits kept
 
     after-ended : ended (next .state) ≡ true → nec.edgeAfter d edge .memory .state ≡ Init
-    after-ended e = ap (λ (t : NecTotalIn). t .memory .state) total-settled ∙ settled-ended kept (next .state) refl e
+    after-ended e = ap (λ (t : NecTotalIn). t .memory .state) total-ruled ∙ ruled-ended kept (next .state) refl e
 
     after-framed
         : framed (next .state) ≡ true → nec.edgeReport d edge ≡ report.Nothing → receiving (nec.edgeAfter d edge .memory .state) ≡ true
     after-framed f silent =
-        rw total-settled (settled-framed kept (next .state) (next .bits) refl f (sym reported ∙ silent))
+        rw total-ruled (ruled-framed kept (next .state) (next .bits) refl f (sym reported ∙ silent))
 
   -- what is reported is no refusal
   taken-told : (r : Report) → nec.edgeReport d edge ≡ r → (r ≡ report.Refused 4 → true ≡ false) → nec.pastEnd (d .memory .state) ≡ false
@@ -103,7 +103,7 @@ pub sync-forgets
 unfolding opens
 sync-forgets d edge h =
     let (within, opened) = at-opens (d .memory .state) (reads d edge) (d .memory .bits) (edge .rising) (edge .duration) h in
-    let all = total-settled d edge within ∙ ap (λ (m : NecMemory). nec.settled (nec.stood m)) opened in
+    let all = total-ruled d edge within ∙ ap (λ (m : NecMemory). nec.ruled (nec.stood m)) opened in
     (ap (λ (t : NecTotalIn). t .report) all, ap (λ (t : NecTotalIn). record { spans = d .spans; memory = t .memory }) all)
 
 -- what is reported does not open

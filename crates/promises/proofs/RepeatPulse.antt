@@ -9,7 +9,7 @@ use borrow.Author.Tests.{eqb-true, ltb-false, ltb-true, le-leb, lt-leb}
 use Rattle.commands.specs.Nec.{unpackOf}
 use Rattle.commands.specs.declared.Command.the-variants as command
 use Rattle.commands.specs.declared.nec.NecCommand.{NecCommand}
-use Rattle.reports.specs.Rule.{reportOf, settlesAt}
+use Rattle.reports.specs.Rule.{reportOf, resetsAt}
 use Rattle.reports.specs.declared.Fault.{Fault}
 use Rattle.reports.specs.declared.Report.{Report}
 use Rattle.reports.specs.declared.Report.the-variants as report
@@ -193,25 +193,25 @@ told-framed Done bits c f h =
 told-framed RepeatDone bits c f h = cc
 told-framed (Error fault) bits c f h = cc
 
-pub settled-framed
+pub ruled-framed
     : (m : NecMemory) (state : NecState) (bits : ℕ) → m .state ≡ state → framed state ≡ true → told state bits ≡ report.Nothing
-    → receiving (nec.settled (nec.stood m) .memory .state) ≡ true
+    → receiving (nec.ruled (nec.stood m) .memory .state) ≡ true
 unfolding unpackOf
-settled-framed m Init bits e f h = cc
-settled-framed m (Receiving n) bits e f h = simp e
-settled-framed m Done bits e f h = cc
-settled-framed m RepeatDone bits e f h = cc
-settled-framed m (Error fault) bits e f h = cc
+ruled-framed m Init bits e f h = cc
+ruled-framed m (Receiving n) bits e f h = simp e
+ruled-framed m Done bits e f h = cc
+ruled-framed m RepeatDone bits e f h = cc
+ruled-framed m (Error fault) bits e f h = cc
 
-pub settled-ended : (m : NecMemory) (state : NecState) → m .state ≡ state → ended state ≡ true → nec.settled (nec.stood m) .memory .state ≡ Init
-settled-ended m Init e h = simp e
-settled-ended m (Receiving n) e h = cc
-settled-ended m Done e h = simp e
-settled-ended m RepeatDone e h = simp e
-settled-ended m (Error fault) e h = simp e
+pub ruled-ended : (m : NecMemory) (state : NecState) → m .state ≡ state → ended state ≡ true → nec.ruled (nec.stood m) .memory .state ≡ Init
+ruled-ended m Init e h = simp e
+ruled-ended m (Receiving n) e h = cc
+ruled-ended m Done e h = simp e
+ruled-ended m RepeatDone e h = simp e
+ruled-ended m (Error fault) e h = simp e
 
-pub settled-bits : (m : NecMemory) → nec.settled (nec.stood m) .memory .bits ≡ m .bits
-settled-bits m = either (λ (kept : NecMemory). kept .bits ≡ m .bits) (settlesAt (nec.statusOf (m .state))) refl refl
+pub ruled-bits : (m : NecMemory) → nec.ruled (nec.stood m) .memory .bits ≡ m .bits
+ruled-bits m = either (λ (kept : NecMemory). kept .bits ≡ m .bits) (resetsAt (nec.statusOf (m .state))) refl refl
 
 -- ---- one edge of a pulse: at a falling edge state and bits stay
 

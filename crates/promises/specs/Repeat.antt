@@ -1,4 +1,4 @@
--- The captioner's question: when a frame breaks and the key is held, whose bits does the repeat carry, and who clears them first?
+-- The captioner's question: whose bits a repeat carries when a frame breaks and the key is held, and who clears them first.
 -- Of NEC through event_total, at every rate and for any edges.
 use Prim.Native.Nat.{ℕ, _+_, _^_}
 use mathlib.Core.Path.{_≡_}

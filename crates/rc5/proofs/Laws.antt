@@ -15,7 +15,7 @@ use Rattle.reports.specs.declared.Report.the-variants as report
 use Rattle.reports.proofs.Run.{after-keeps}
 use Rattle.reports.proofs.NoError.{errs, never}
 use Rattle.reports.proofs.Either.{either}
-use Rattle.rc5.specs.Decoder.{pastEnd, reachable, none, memoryOf, ticked, afterBit, nextOf, stepIn, stood, settled, eventIn, totalIn, newAt, eventOf, resetIn, eventTotal, edgeReport, edgeAfter, decoderAfter}
+use Rattle.rc5.specs.Decoder.{pastEnd, reachable, none, memoryOf, ticked, afterBit, nextOf, stepIn, stood, ruled, eventIn, totalIn, newAt, eventOf, resetIn, eventTotal, edgeReport, edgeAfter, decoderAfter}
 use Rattle.rc5.specs.declared.decoder.Rc5State.{Rc5State}
 use Rattle.rc5.specs.declared.decoder.Rc5State.the-variants.{Idle, Data, Done, Error}
 use Rattle.rc5.specs.declared.decoder.Rc5Memory.{Rc5Memory}
@@ -65,19 +65,19 @@ next-sound (Data n) bits clock rising h = either Sound (eqb (clock % 2) 0) (afte
 next-sound Done bits clock rising h = refl
 next-sound (Error fault) bits clock rising h = h
 
-settled-reachable
-    : (m : Rc5Memory) (state : Rc5State) → m .state ≡ state → sound state ≡ true → reachable (settled (stood m) .memory .state) ≡ true
-settled-reachable m Idle e h = simp e
-settled-reachable m (Data n) e h = simp e h
-settled-reachable m Done e h = simp e
-settled-reachable m (Error fault) e h = simp e
+ruled-reachable
+    : (m : Rc5Memory) (state : Rc5State) → m .state ≡ state → sound state ≡ true → reachable (ruled (stood m) .memory .state) ≡ true
+ruled-reachable m Idle e h = simp e
+ruled-reachable m (Data n) e h = simp e h
+ruled-reachable m Done e h = simp e
+ruled-reachable m (Error fault) e h = simp e
 
-settled-no-error
-    : (m : Rc5Memory) (state : Rc5State) → m .state ≡ state → sound state ≡ true → errs (settled (stood m) .report) ≡ false
-settled-no-error m Idle e h = simp e
-settled-no-error m (Data n) e h = simp e
-settled-no-error m Done e h = simp e
-settled-no-error m (Error fault) e h = simp e (sym h)
+ruled-no-error
+    : (m : Rc5Memory) (state : Rc5State) → m .state ≡ state → sound state ≡ true → errs (ruled (stood m) .report) ≡ false
+ruled-no-error m Idle e h = simp e
+ruled-no-error m (Data n) e h = simp e
+ruled-no-error m Done e h = simp e
+ruled-no-error m (Error fault) e h = simp e (sym h)
 
 ticked-sound : (m : Rc5Memory) (place : ℕ) → Sound m → Sound (ticked m place)
 ticked-sound m place h = either Sound (eqb place none) refl h
@@ -95,19 +95,19 @@ module _ (low high : List ℕ) (m : Rc5Memory) (duration : ℕ) where
       next-sound (t .state) (t .bits) (t .clock) rising (ticked-sound m place h)
 
   -- an edge that is not refused: the rule after the step
-  pub total-taken : (rising : Bool) → pastEnd (m .state) ≡ false → totalIn low high m rising duration ≡ settled (stood (stepIn low high m rising duration))
+  pub total-taken : (rising : Bool) → pastEnd (m .state) ≡ false → totalIn low high m rising duration ≡ ruled (stood (stepIn low high m rising duration))
   unfolding totalIn eventIn
   total-taken rising h = rw h
 
   pub total-reachable : (rising : Bool) → reachable (m .state) ≡ true → reachable (totalIn low high m rising duration .memory .state) ≡ true
   total-reachable rising h =
       rw (total-taken rising (reachable-in-reach (m .state) h))
-      (settled-reachable (stepIn low high m rising duration) _ refl (step-sound rising (reachable-sound (m .state) h)))
+      (ruled-reachable (stepIn low high m rising duration) _ refl (step-sound rising (reachable-sound (m .state) h)))
 
   pub total-no-error
       : (rising : Bool) (fault : Fault) → reachable (m .state) ≡ true → totalIn low high m rising duration .report ≡ report.Error fault → ⊥
   total-no-error rising fault h r =
-      never (settled-no-error (stepIn low high m rising duration) _ refl (step-sound rising (reachable-sound (m .state) h)))
+      never (ruled-no-error (stepIn low high m rising duration) _ refl (step-sound rising (reachable-sound (m .state) h)))
       (rw (total-taken rising (reachable-in-reach (m .state) h)) at r)
 
 pub fresh-reachable : (rate : ℕ) → reachable (newAt rate .decoder .memory .state) ≡ true

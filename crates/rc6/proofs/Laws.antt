@@ -12,7 +12,7 @@ use Rattle.spans.specs.Lookup.{lookupIn, placeOf}
 use Rattle.reports.specs.Run.{Edge}
 use Rattle.reports.proofs.Run.{after-keeps}
 use Rattle.reports.proofs.Either.{either}
-use Rattle.rc6.specs.Decoder.{pastEnd, reachable, none, ticksOf, memoryOf, ticked, isFall, isRise, isOdd, afterHeader, afterData, nextOf, stepIn, stood, settled, eventIn, totalIn, newAt, eventOf, resetIn, eventTotal, edgeAfter, decoderAfter}
+use Rattle.rc6.specs.Decoder.{pastEnd, reachable, none, ticksOf, memoryOf, ticked, isFall, isRise, isOdd, afterHeader, afterData, nextOf, stepIn, stood, ruled, eventIn, totalIn, newAt, eventOf, resetIn, eventTotal, edgeAfter, decoderAfter}
 use Rattle.rc6.specs.declared.decoder.Rc6State.{Rc6State}
 use Rattle.rc6.specs.declared.decoder.Rc6State.the-variants.{Idle, Leading, LeadingPause, HeaderData, Trailing, Data, Done, Error}
 use Rattle.rc6.specs.declared.decoder.Rc6Memory.{Rc6Memory}
@@ -89,16 +89,16 @@ next-sound (Error fault) m rising ticks h = h
 ticked-sound : (m : Rc6Memory) (place : ℕ) → Sound m → Sound (ticked m place)
 ticked-sound m place h = either Sound (eqb place none) refl h
 
-settled-reachable
-    : (m : Rc6Memory) (state : Rc6State) → m .state ≡ state → SoundAt state → reachable (settled (stood m) .memory .state) ≡ true
-settled-reachable m Idle e h = simp e
-settled-reachable m Leading e h = simp e
-settled-reachable m LeadingPause e h = simp e
-settled-reachable m (HeaderData n) e h = simp e h
-settled-reachable m Trailing e h = simp e
-settled-reachable m (Data n) e h = simp e h
-settled-reachable m Done e h = simp e
-settled-reachable m (Error fault) e h = simp e
+ruled-reachable
+    : (m : Rc6Memory) (state : Rc6State) → m .state ≡ state → SoundAt state → reachable (ruled (stood m) .memory .state) ≡ true
+ruled-reachable m Idle e h = simp e
+ruled-reachable m Leading e h = simp e
+ruled-reachable m LeadingPause e h = simp e
+ruled-reachable m (HeaderData n) e h = simp e h
+ruled-reachable m Trailing e h = simp e
+ruled-reachable m (Data n) e h = simp e h
+ruled-reachable m Done e h = simp e
+ruled-reachable m (Error fault) e h = simp e
 
 module _ (low high : List ℕ) (m : Rc6Memory) (duration : ℕ) where
   pub bad-rise-opens
@@ -114,14 +114,14 @@ module _ (low high : List ℕ) (m : Rc6Memory) (duration : ℕ) where
       next-sound (t .state) t rising (ticksOf place) (ticked-sound m place h)
 
   -- an edge that is not refused: the rule after the step
-  pub total-taken : (rising : Bool) → pastEnd (m .state) ≡ false → totalIn low high m rising duration ≡ settled (stood (stepIn low high m rising duration))
+  pub total-taken : (rising : Bool) → pastEnd (m .state) ≡ false → totalIn low high m rising duration ≡ ruled (stood (stepIn low high m rising duration))
   unfolding totalIn eventIn
   total-taken rising h = rw h
 
   pub total-reachable : (rising : Bool) → reachable (m .state) ≡ true → reachable (totalIn low high m rising duration .memory .state) ≡ true
   total-reachable rising h =
       rw (total-taken rising (reachable-in-reach (m .state) h))
-      (settled-reachable (stepIn low high m rising duration) _ refl (step-sound rising (reachable-sound (m .state) h)))
+      (ruled-reachable (stepIn low high m rising duration) _ refl (step-sound rising (reachable-sound (m .state) h)))
 
 pub fresh-reachable : (rate : ℕ) → reachable (newAt rate .decoder .memory .state) ≡ true
 fresh-reachable rate = refl

@@ -9,7 +9,7 @@ use spans::Spans;
 ghost use mathlib.Core.Path.{_≡_};
 ghost use mathlib.Core.Bool.{false};
 ghost use Prim.Native.Nat.{_≤_};
-ghost use Rattle.rc6.specs.Decoder.{pastEnd, isFall, isRise, isOdd, gathered, inState, fromIdle, fromLeading, fromLeadingPause, afterHeader, fromHeaderData, trailed, fromTrailing, afterData, fromData, nextOf, resetOf, counted, stepIn, statusOf, fresh, eventIn, commandOf, stood, settled, totalIn, newAt, eventOf, commandIn, resetIn, eventTotal};
+ghost use Rattle.rc6.specs.Decoder.{pastEnd, isFall, isRise, isOdd, gathered, inState, fromIdle, fromLeading, fromLeadingPause, afterHeader, fromHeaderData, trailed, fromTrailing, afterData, fromData, nextOf, resetOf, counted, stepIn, statusOf, fresh, eventIn, commandOf, stood, ruled, totalIn, newAt, eventOf, commandIn, resetIn, eventTotal};
 
 pub enum Rc6State {
     Idle,
@@ -360,12 +360,12 @@ pub fn command_of(m: Rc6Memory) -> Report
 
 // The rule of event_total, after a step.
 fn settle(after: Rc6Memory) -> Rc6TotalIn
-    ensures { λ r. ⌜ r ≡ settled (stood after) ⌝ }
+    ensures { λ r. ⌜ r ≡ ruled (stood after) ⌝ }
 {
     let state = after.state;
     let status = status_of(state);
     let report = reports::report_of(status, command_of(after));
-    if reports::settles(status) {
+    if reports::resets(status) {
         let memory = reset_of(after);
         Rc6TotalIn { report, memory }
     } else {

@@ -12,7 +12,7 @@ use Rattle.spans.specs.Lookup.{lookupIn, placeOf}
 use Rattle.reports.specs.Run.{Edge}
 use Rattle.reports.proofs.Run.{after-keeps}
 use Rattle.reports.proofs.Either.{either}
-use Rattle.sbp.specs.Decoder.{pastEnd, reachable, nextOf, stepIn, stood, settled, eventIn, totalIn, newAt, eventOf, resetIn, eventTotal, edgeAfter, decoderAfter}
+use Rattle.sbp.specs.Decoder.{pastEnd, reachable, nextOf, stepIn, stood, ruled, eventIn, totalIn, newAt, eventOf, resetIn, eventTotal, edgeAfter, decoderAfter}
 use Rattle.sbp.specs.declared.decoder.SbpState.{SbpState}
 use Rattle.sbp.specs.declared.decoder.SbpState.the-variants.{Init, Address, Divider, Command, Done, Error}
 use Rattle.sbp.specs.declared.decoder.SbpMemory.{SbpMemory}
@@ -62,14 +62,14 @@ reachable-in-reach (Command n) h = le-ltb 19 n (leb-true n 19 h)
 reachable-in-reach Done h = refl
 reachable-in-reach (Error fault) h = refl
 
-settled-reachable
-    : (m : SbpMemory) (state : SbpState) → m .state ≡ state → pastEnd state ≡ false → reachable (settled (stood m) .memory .state) ≡ true
-settled-reachable m Init e h = simp e
-settled-reachable m (Address n) e h = simp e (le-leb n 15 (ltb-false 15 n h))
-settled-reachable m Divider e h = simp e
-settled-reachable m (Command n) e h = simp e (le-leb n 19 (ltb-false 19 n h))
-settled-reachable m Done e h = simp e
-settled-reachable m (Error fault) e h = simp e
+ruled-reachable
+    : (m : SbpMemory) (state : SbpState) → m .state ≡ state → pastEnd state ≡ false → reachable (ruled (stood m) .memory .state) ≡ true
+ruled-reachable m Init e h = simp e
+ruled-reachable m (Address n) e h = simp e (le-leb n 15 (ltb-false 15 n h))
+ruled-reachable m Divider e h = simp e
+ruled-reachable m (Command n) e h = simp e (le-leb n 19 (ltb-false 19 n h))
+ruled-reachable m Done e h = simp e
+ruled-reachable m (Error fault) e h = simp e
 
 module _ (low high : List ℕ) (m : SbpMemory) (duration : ℕ) where
   step-in-reach : (rising : Bool) → pastEnd (m .state) ≡ false → pastEnd (stepIn low high m rising duration .state) ≡ false
@@ -78,14 +78,14 @@ module _ (low high : List ℕ) (m : SbpMemory) (duration : ℕ) where
   step-in-reach false h = h
 
   -- an edge that is not refused: the rule after the step
-  pub total-taken : (rising : Bool) → pastEnd (m .state) ≡ false → totalIn low high m rising duration ≡ settled (stood (stepIn low high m rising duration))
+  pub total-taken : (rising : Bool) → pastEnd (m .state) ≡ false → totalIn low high m rising duration ≡ ruled (stood (stepIn low high m rising duration))
   unfolding totalIn eventIn
   total-taken rising h = rw h
 
   pub total-reachable : (rising : Bool) → reachable (m .state) ≡ true → reachable (totalIn low high m rising duration .memory .state) ≡ true
   total-reachable rising h =
       let p = reachable-in-reach (m .state) h in
-      rw (total-taken rising p) (settled-reachable (stepIn low high m rising duration) _ refl (step-in-reach rising p))
+      rw (total-taken rising p) (ruled-reachable (stepIn low high m rising duration) _ refl (step-in-reach rising p))
 
 pub fresh-reachable : (rate : ℕ) → reachable (newAt rate .decoder .memory .state) ≡ true
 fresh-reachable rate = refl

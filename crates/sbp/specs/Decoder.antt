@@ -132,11 +132,11 @@ abbrev pub resetOf : SbpMemory → SbpMemory
 resetOf m = fresh
 
 -- `event_total`: the rule of `reports`, over event, command and reset
-abbrev pub settled : SbpEventIn → SbpTotalIn
-settled e = record { report = ruleReport commandOf (e .status) (e .memory); memory = ruleAfter resetOf (e .status) (e .memory) }
+abbrev pub ruled : SbpEventIn → SbpTotalIn
+ruled e = record { report = ruleReport commandOf (e .status) (e .memory); memory = ruleAfter resetOf (e .status) (e .memory) }
 
 unfoldable pub totalIn : List ℕ → List ℕ → SbpMemory → Bool → ℕ → SbpTotalIn
-totalIn low high m rising duration = settled (eventIn low high m rising duration)
+totalIn low high m rising duration = ruled (eventIn low high m rising duration)
 
 -- "Every decoder carries its eight spans inside its own state". Refusal 1: the spans are then those of the refused answer
 abbrev pub newAt : ℕ → SbpMade
