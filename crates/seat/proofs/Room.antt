@@ -8,14 +8,13 @@ use lib.ListN.{length}
 use Rattle.spans.specs.Spans.{rateTaken}
 use Rattle.frames.specs.Frames.{encodedOf, encodedNumber, tooShort}
 use Rattle.frames.specs.declared.Encoded.the-variants.{Wrote, Refused}
-use Rattle.receiver.specs.Encoder.{frameBy, encodeTaken}
+use Rattle.receiver.specs.Encoder.{frameBy, encodedBy, encodeTaken}
 use Rattle.receiver.proofs.Room.{under, at-most}
-use Rattle.seat.specs.Seat.{encodedFor}
 
 module _ (rate addr cmd start : ℕ) (toggle : Bool) (a : addr < 256) (c : cmd < 256) where
   -- with such a room the number is 2 or 1 for a protocol or a rate that is not taken, and else 0
   pub enough : (protocol : ℕ) (lent : List ℕ) → 67 ≤ length lent
-      → encodedNumber (encodedFor protocol rate addr cmd start toggle lent) ≡ cond (encodeTaken protocol) (cond (rateTaken rate) 0 1) 2
+      → encodedNumber (encodedBy protocol rate lent (frameBy protocol rate addr cmd start toggle)) ≡ cond (encodeTaken protocol) (cond (rateTaken rate) 0 1) 2
   unfolding encodedOf
   enough protocol lent long =
       let room : tooShort lent (frameBy protocol rate addr cmd start toggle) ≡ false = le-ltb _ _ (under _ 67 _ (at-most rate addr cmd start toggle a c protocol) long) in

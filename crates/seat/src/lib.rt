@@ -6,7 +6,8 @@ use spans::Spans;
 ghost use mathlib.Core.Path.{_≡_};
 ghost use Rattle.spans.specs.Spans.{refusalNumber};
 ghost use Rattle.frames.specs.Frames.{encodedNumber, encodedLength};
-ghost use Rattle.seat.specs.Seat.{encodedFor, leftFor, lookupNumber, placeWith, lookupPlace};
+ghost use Rattle.receiver.specs.Encoder.{frameBy, encodedBy, leftBy};
+ghost use Rattle.seat.specs.Seat.{lookupNumber, placeWith, lookupPlace};
 
 fn encoded_number(encoded: Encoded) -> u32
     ensures { λ r. ⌜ r ≡ encodedNumber encoded ⌝ }
@@ -60,9 +61,9 @@ pub extern "C" fn seat_encode(
     frame: &mut [u32],
     length: &mut usize,
 ) -> u32
-    ensures number { λ r. ⌜ r ≡ encodedNumber (encodedFor protocol rate addr cmd start toggle (now (frame .entry))) ⌝ }
-    ensures needs { λ _. ⌜ now (length .exit) ≡ encodedLength (encodedFor protocol rate addr cmd start toggle (now (frame .entry))) ⌝ }
-    ensures left { λ _. ⌜ now (frame .exit) ≡ leftFor protocol rate addr cmd start toggle (now (frame .entry)) ⌝ }
+    ensures number { λ r. ⌜ r ≡ encodedNumber (encodedBy protocol rate (now (frame .entry)) (frameBy protocol rate addr cmd start toggle)) ⌝ }
+    ensures length { λ _. ⌜ now (length .exit) ≡ encodedLength (encodedBy protocol rate (now (frame .entry)) (frameBy protocol rate addr cmd start toggle)) ⌝ }
+    ensures left { λ _. ⌜ now (frame .exit) ≡ leftBy protocol rate (now (frame .entry)) (frameBy protocol rate addr cmd start toggle) ⌝ }
 {
     let encoded = receiver::encoder::encode(protocol, rate, addr, cmd, start, toggle, frame);
     *length = encoded_length(encoded);
