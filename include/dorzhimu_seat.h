@@ -3,9 +3,8 @@
  *
  * Link with libseat.a, which `rt staticlib seat` writes to target/staticlib.
  * What each call returns, stores and leaves is proved, for every number that it
- * is given (crates/seat: src/lib.rt has the contracts, specs/Seat.antt their
- * definitions). The refusal numbers are those of document 01, the project's
- * scope paper.
+ * is given: crates/seat/src/lib.rt has the contracts. The refusal numbers are
+ * those of document 01, the project's scope paper.
  *
  * Sending a command, in five lines. `after(ticks, on)` waits for so many ticks
  * and then switches the carrier:
@@ -46,9 +45,9 @@
  * stack pointer. So it is not to be called where interrupts run on the same
  * stack and overwrite them, nor where SSE2 registers are not saved.
  *
- * Both functions end, keep nothing between calls, have no data of their own,
- * call no function of anyone's, and take less than 300 bytes of stack. They may
- * be called from several threads at once.
+ * Both functions end, keep nothing between calls, have no data of their own and
+ * call no function of anyone's, so they may be called from several threads at
+ * once. They take less than 300 bytes of stack (measured, not proved).
  */
 
 #ifndef DORZHIMU_SEAT_H
@@ -161,7 +160,8 @@ uint32_t seat_encode(uint32_t protocol, uint32_t rate,
  *
  * `*place` is stored by every call. With a refusal it is `SEAT_NO_PLACE`.
  *
- * Each call computes the eight spans anew, in 200 to 300 instructions.
+ * Each call computes the eight spans anew, in 200 to 300 instructions (counted,
+ * not proved).
  *
  * \param protocol   protocol number, `SEAT_NEC` to `SEAT_DENON`.
  * \param rate       ticks a second, 1 to `SEAT_LAST_RATE`.
