@@ -48,7 +48,7 @@ use crate::large::Choice;
 const USAGE: &str = "usage:
   compare answers                    the expected answers to the calls on stdin
   compare recorded                   the calls of the recorded test
-  compare scenes                     where its scenes stand, by the wrong that each would show
+  compare scenes                     where its parts stand; a scene's name is the wrong that it would show
   compare calls [--part NAME] [--times N]
                                      the calls of the large run
   compare large [--part NAME] [--times N] PROGRAM [ARGS..]

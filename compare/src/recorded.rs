@@ -14,53 +14,44 @@ const MHZ: u32 = 1_000_000;
 /// A line of this length is longer than the buffers that a reader is likely to have.
 const LONG: usize = 70_000;
 
+/// A part of the list: its name and its lines.
+type Part = (&'static str, Vec<Vec<u8>>);
+
 /// Prints the list. Its last line has no newline.
 pub fn write(out: &mut impl Write) -> io::Result<()> {
-    for call in understood() {
-        writeln!(out, "{}", call)?;
-    }
-    for line in not_understood() {
-        out.write_all(&line)?;
-        out.write_all(b"\n")?;
-    }
-    for line in leading_zeros() {
-        writeln!(out, "{}", line)?;
-    }
-    write!(out, "lookup 5 1000000 5000")?;
-    for (_, scene) in recorded_scenes::scenes() {
-        for line in scene.lines {
-            out.write_all(b"\n")?;
-            out.write_all(&line)?;
-        }
-    }
-    Ok(())
+    let lines: Vec<Vec<u8>> = parts().into_iter().flat_map(|(_, lines)| lines).collect();
+    out.write_all(&lines.join(&b'\n'))
 }
 
-/// Prints where the scenes stand in the list: the first line of each, how many it has, its name.
+/// Prints where the parts stand in the list: the first line of each, how many it has, its name.
 pub fn write_scenes(out: &mut impl Write) -> io::Result<()> {
-    let before = understood().len() + not_understood().len() + leading_zeros().len();
-    // Line numbers begin at 1, and one more call stands before the scenes.
-    let mut first = before + 2;
-    for (name, scene) in recorded_scenes::scenes() {
-        let count = scene.lines.len();
-        writeln!(out, "{:5} {:3} {}", first, count, name)?;
-        first += count;
+    let mut first = 1;
+    for (name, lines) in parts() {
+        writeln!(out, "{:5} {:3} {}", first, lines.len(), name)?;
+        first += lines.len();
     }
     Ok(())
 }
 
-fn understood() -> Vec<Call> {
-    let mut calls = Vec::new();
-    for protocol in PROTOCOLS {
-        calls.extend(at_rates(protocol));
-    }
-    calls.extend(document_numbers());
-    for protocol in PROTOCOLS {
-        calls.extend(extremes(protocol));
-    }
-    calls.extend(refusals());
-    calls.extend(recorded_frames::calls());
-    calls
+/// Calls on no slot first, by subject; then the scenes.
+fn parts() -> Vec<Part> {
+    let mut parts = vec![
+        ("spans_and_their_ends", lines(PROTOCOLS.into_iter().flat_map(at_rates))),
+        ("durations_of_document_01", lines(document_numbers())),
+        ("durations_at_32_and_64_bits", lines(PROTOCOLS.into_iter().flat_map(extremes))),
+        ("refusals_2_and_1_in_their_order", lines(refusals())),
+        ("frames", lines(recorded_frames::calls())),
+        ("lines_that_are_no_call", not_understood()),
+        ("leading_zeros", leading_zeros()),
+        ("a_call_behind_them", vec![b"lookup 5 1000000 5000".to_vec()]),
+    ];
+    let scenes = recorded_scenes::scenes().into_iter();
+    parts.extend(scenes.map(|(name, scene)| (name, scene.lines)));
+    parts
+}
+
+fn lines(calls: impl IntoIterator<Item = Call>) -> Vec<Vec<u8>> {
+    calls.into_iter().map(|call| call.to_string().into_bytes()).collect()
 }
 
 /// Spans at a few rates, and the durations at their ends at some of them.
@@ -209,13 +200,14 @@ fn not_understood() -> Vec<Vec<u8>> {
 }
 
 /// Numbers with leading zeros: understood, however long.
-fn leading_zeros() -> Vec<String> {
-    vec![
+fn leading_zeros() -> Vec<Vec<u8>> {
+    let lines = [
         "spans 01 0001000000".to_string(),
         "spans 00 1000000".to_string(),
         "lookup 0001 00000000001000000 000000000000000000000013500".to_string(),
         format!("lookup 1 1000000 {}13500", "0".repeat(LONG)),
         "encode 01 0001000000 0004 008 000 00 0067".to_string(),
         format!("encode 2 1000000 0 0 3 {}1 26", "0".repeat(LONG)),
-    ]
+    ];
+    lines.map(String::into_bytes).to_vec()
 }
