@@ -7,26 +7,26 @@ use native.Mathlib.Omega.{arith}
 use lib.ListN.{length, set}
 use lib.Seq.{sets, length-sets}
 use Rattle.frames.proofs.Laid.{same-room}
-use Rattle.rc6.specs.declared.encoder.Run.{Run}
+use Rattle.rc6.specs.declared.encoder.Stretch.{Stretch}
 use Rattle.rc6.specs.Encoder.{merged, inTicks}
 use Rattle.rc6.specs.EncoderSteps.{standing, wordLevels, wordFrame}
-use Rattle.rc6.proofs.Levels.{runOf}
+use Rattle.rc6.proofs.Levels.{stretchOf}
 
-module _ (unit word : ℕ) (lent between : List ℕ) (first : Run) (starts : first ≡ runOf false 2 2) (led : between ≡ sets lent 0 (inTicks unit (0 ∷ 6 ∷ []))) where
+module _ (unit word : ℕ) (lent between : List ℕ) (first : Stretch) (starts : first ≡ stretchOf false 2 2) (led : between ≡ sets lent 0 (inTicks unit (0 ∷ 6 ∷ []))) where
   pub led-room : length between ≡ length lent
   led-room = ap length led ∙ length-sets lent 0 (inTicks unit (0 ∷ 6 ∷ []))
 
   pub led-at : first .at + length (merged (standing first) (wordLevels word 21)) ≡ length (wordFrame word)
-  led-at = ap (λ (r : Run). r .at + length (merged (standing r) (wordLevels word 21))) starts ∙ omega arith
+  led-at = ap (λ (r : Stretch). r .at + length (merged (standing r) (wordLevels word 21))) starts ∙ omega arith
 
-  module _ (left : List ℕ) (last : Run)
+  module _ (left : List ℕ) (last : Stretch)
       (here : last .at + length (merged (standing last) []) ≡ first .at + length (merged (standing first) (wordLevels word 21)))
       (laid : sets left (last .at) (inTicks unit (merged (standing last) [])) ≡ sets between (first .at) (inTicks unit (merged (standing first) (wordLevels word 21)))) where
     pub left-room : length left ≡ length lent
     left-room = same-room left between (last .at) (first .at) (inTicks unit (merged (standing last) [])) (inTicks unit (merged (standing first) (wordLevels word 21))) laid ∙ led-room
 
     all-laid : sets left (last .at) (inTicks unit (merged (standing last) [])) ≡ sets lent 0 (inTicks unit (wordFrame word))
-    all-laid = laid ∙ ap₂ (λ (d : List ℕ) (r : Run). sets d (r .at) (inTicks unit (merged (standing r) (wordLevels word 21)))) led starts
+    all-laid = laid ∙ ap₂ (λ (d : List ℕ) (r : Stretch). sets d (r .at) (inTicks unit (merged (standing r) (wordLevels word 21)))) led starts
 
     pub closing-at : last .high ≡ true → length (wordFrame word) ≤ length lent → last .at < length left
     unfolding merged

@@ -7,7 +7,7 @@ use native.Mathlib.Omega.{arith}
 use Rattle.frames.specs.Frames.{bitSet, Fit, none, more}
 use Rattle.rc6.specs.Encoder.{merged, inTicks, unitOf, frameOf}
 use Rattle.rc6.specs.EncoderSteps.{levelOf, joined, halfOf, wordOf, wordLevels}
-use Rattle.rc6.proofs.Levels.{runOf, bit-merged}
+use Rattle.rc6.proofs.Levels.{stretchOf, bit-merged}
 use Rattle.rc6.proofs.Turns.{half-le}
 use Rattle.rc6.proofs.Frame.{frame-is}
 
@@ -21,7 +21,7 @@ module _ (unit : ℕ) (small : unit ≤ 4294) where
   closing-fits false units h = none
 
   joined-fits : (level one : Bool) (units next : ℕ) (rest : List ℕ) → units ≤ 2 → next ≤ 2
-      → Fit (inTicks unit rest) → Fit (inTicks unit (joined (runOf level units 0) one next ++ rest))
+      → Fit (inTicks unit rest) → Fit (inTicks unit (joined (stretchOf level units 0) one next ++ rest))
   joined-fits true true units next rest h k fit = more (ticks-fit (units + next) (omega arith)) fit
   joined-fits true false units next rest h k fit = more (ticks-fit units (omega arith)) (more (ticks-fit next (omega arith)) fit)
   joined-fits false true units next rest h k fit = more (ticks-fit units (omega arith)) (more (ticks-fit next (omega arith)) fit)

@@ -5,7 +5,7 @@ use mathlib.Core.Bool.{Bool, true, false, not, cond, Bool·beq}
 use lib.Dec.{eqb}
 use lib.ListN.{length}
 use Rattle.frames.specs.Frames.{bitSet}
-use Rattle.rc6.specs.declared.encoder.Run.{Run}
+use Rattle.rc6.specs.declared.encoder.Stretch.{Stretch}
 use Rattle.rc6.specs.Encoder.{Level, high, low, bitLevels, merged}
 
 -- the level that stands
@@ -13,27 +13,27 @@ abbrev pub levelOf : Bool → ℕ → Level
 levelOf true units = high units
 levelOf false units = low units
 
-abbrev pub standing : Run → Level
-standing run = levelOf (run .high) (run .units)
+abbrev pub standing : Stretch → Level
+standing stretch = levelOf (stretch .high) (stretch .units)
 
 -- a level like it is added to it, the other has it written
-abbrev pub written : Run → Bool → List ℕ
-written run next = cond (Bool·beq (run .high) next) [] (run .units ∷ [])
+abbrev pub written : Stretch → Bool → List ℕ
+written stretch next = cond (Bool·beq (stretch .high) next) [] (stretch .units ∷ [])
 
-abbrev pub after : Run → Bool → ℕ → Run
-after run next units =
+abbrev pub after : Stretch → Bool → ℕ → Stretch
+after stretch next units =
     record {
       high = next;
-      units = cond (Bool·beq (run .high) next) (run .units + units) units;
-      at = run .at + length (written run next);
+      units = cond (Bool·beq (stretch .high) next) (stretch .units + units) units;
+      at = stretch .at + length (written stretch next);
     }
 
 -- a bit's first half is merged with what stands, or has it written; its second half then stands
-abbrev pub joined : Run → Bool → ℕ → List ℕ
-joined run one units = cond (Bool·beq (run .high) one) ((run .units + units) ∷ []) (run .units ∷ units ∷ [])
+abbrev pub joined : Stretch → Bool → ℕ → List ℕ
+joined stretch one units = cond (Bool·beq (stretch .high) one) ((stretch .units + units) ∷ []) (stretch .units ∷ units ∷ [])
 
-abbrev pub afterBit : Run → Bool → ℕ → Run
-afterBit run one units = record { high = not one; units = units; at = run .at + length (joined run one units) }
+abbrev pub afterBit : Stretch → Bool → ℕ → Stretch
+afterBit stretch one units = record { high = not one; units = units; at = stretch .at + length (joined stretch one units) }
 
 -- the start bit, the mode, the toggle and the command as 21 bits of one word, below a 1 for the leader; the toggle's halves are double
 abbrev pub wordOf : Bool → ℕ → ℕ

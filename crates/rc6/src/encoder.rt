@@ -12,29 +12,29 @@ ghost use Rattle.rc6.specs.Encoder.{merged, inTicks, rc6Frame};
 ghost use Rattle.rc6.specs.EncoderSteps.{standing, written, after, joined, afterBit, wordOf, halfOf, wordLevels, wordFrame};
 
 // The level that stands, its units so far, and the place that its duration takes.
-struct Run {
+struct Stretch {
     high: bool,
     units: u32,
     at: usize,
 }
 
 // Takes the next level: one like the level that stands is added to it, the other has it written.
-fn level(out: &mut [u32], unit: u32, run: Run, high: bool, units: u32) -> Run
-    requires { ⌜ (run .at < length (now out)) × (run .units ≤ 6) × (units ≤ 6) × (unit ≤ 4294) ⌝ }
-    ensures next { λ r. ⌜ r ≡ after run high units ⌝ }
-    ensures laid { λ _. ⌜ now (out .exit) ≡ sets (now (out .entry)) (run .at) (inTicks unit (written run high)) ⌝ }
+fn level(out: &mut [u32], unit: u32, stretch: Stretch, high: bool, units: u32) -> Stretch
+    requires { ⌜ (stretch .at < length (now out)) × (stretch .units ≤ 6) × (units ≤ 6) × (unit ≤ 4294) ⌝ }
+    ensures next { λ r. ⌜ r ≡ after stretch high units ⌝ }
+    ensures laid { λ _. ⌜ now (out .exit) ≡ sets (now (out .entry)) (stretch .at) (inTicks unit (written stretch high)) ⌝ }
 {
-    let at = run.at;
-    let stands = run.high;
+    let at = stretch.at;
+    let stands = stretch.high;
     if stands == high {
-        Run {
+        Stretch {
             high,
-            units: run.units + units,
+            units: stretch.units + units,
             at,
         }
     } else {
-        out[at] = run.units * unit;
-        Run {
+        out[at] = stretch.units * unit;
+        Stretch {
             high,
             units,
             at: at + 1,
@@ -43,12 +43,12 @@ fn level(out: &mut [u32], unit: u32, run: Run, high: bool, units: u32) -> Run
 }
 
 // A bit: 1 as high low, 0 as low high.
-fn bit(out: &mut [u32], unit: u32, run: Run, one: bool, units: u32) -> Run
-    requires { ⌜ (run .at + length (joined run one units) ≤ length (now out)) × (run .units ≤ 2) × (units ≤ 2) × (unit ≤ 4294) ⌝ }
-    ensures next { λ r. ⌜ r ≡ afterBit run one units ⌝ }
-    ensures laid { λ _. ⌜ now (out .exit) ≡ sets (now (out .entry)) (run .at) (inTicks unit (joined run one units)) ⌝ }
+fn bit(out: &mut [u32], unit: u32, stretch: Stretch, one: bool, units: u32) -> Stretch
+    requires { ⌜ (stretch .at + length (joined stretch one units) ≤ length (now out)) × (stretch .units ≤ 2) × (units ≤ 2) × (unit ≤ 4294) ⌝ }
+    ensures next { λ r. ⌜ r ≡ afterBit stretch one units ⌝ }
+    ensures laid { λ _. ⌜ now (out .exit) ≡ sets (now (out .entry)) (stretch .at) (inTicks unit (joined stretch one units)) ⌝ }
 {
-    let first = level(out, unit, run, one, units);
+    let first = level(out, unit, stretch, one, units);
     level(out, unit, first, !one, units)
 }
 
@@ -76,12 +76,12 @@ fn count(word: u32) -> usize
 }
 
 // High 6 and low 2, behind a low of 0.
-fn leader(out: &mut [u32], unit: u32) -> Run
+fn leader(out: &mut [u32], unit: u32) -> Stretch
     requires { ⌜ (2 ≤ length (now out)) × (unit ≤ 4294) ⌝ }
     ensures next { λ r. ⌜ r ≡ record { high = false; units = 2; at = 2 } ⌝ }
     ensures laid { λ _. ⌜ now (out .exit) ≡ sets (now (out .entry)) 0 (inTicks unit (0 ∷ 6 ∷ [])) ⌝ }
 {
-    let none = Run {
+    let none = Stretch {
         high: false,
         units: 0,
         at: 0,
@@ -91,14 +91,14 @@ fn leader(out: &mut [u32], unit: u32) -> Run
 }
 
 // The 21 bits, highest first, behind what stands. What stands after them.
-fn put_bits(out: &mut [u32], unit: u32, run: Run, word: u32) -> Run
-    requires { ⌜ (run .at + length (merged (standing run) (wordLevels word 21)) ≤ length (now out)) × (run .units ≤ 2) × (unit ≤ 4294) ⌝ }
+fn put_bits(out: &mut [u32], unit: u32, stretch: Stretch, word: u32) -> Stretch
+    requires { ⌜ (stretch .at + length (merged (standing stretch) (wordLevels word 21)) ≤ length (now out)) × (stretch .units ≤ 2) × (unit ≤ 4294) ⌝ }
     ensures few { λ r. ⌜ r .units ≤ 2 ⌝ }
-    ensures next { λ r. ⌜ r .at + length (merged (standing r) []) ≡ run .at + length (merged (standing run) (wordLevels word 21)) ⌝ }
+    ensures next { λ r. ⌜ r .at + length (merged (standing r) []) ≡ stretch .at + length (merged (standing stretch) (wordLevels word 21)) ⌝ }
     ensures laid { λ r. ⌜ sets (now (out .exit)) (r .at) (inTicks unit (merged (standing r) []))
-        ≡ sets (now (out .entry)) (run .at) (inTicks unit (merged (standing run) (wordLevels word 21))) ⌝ }
+        ≡ sets (now (out .entry)) (stretch .at) (inTicks unit (merged (standing stretch) (wordLevels word 21))) ⌝ }
 {
-    let mut next = run;
+    let mut next = stretch;
     let mut left: u32 = 21;
     while 0 < left {
         left -= 1;

@@ -79,7 +79,6 @@ Keep 𝓤 H A mem run = tripleOf 𝓤 H A at-unchanged.signature (at-unchanged.s
 abbrev Change : {M : Type 1} (𝓤 : URA M) (H : Heap 𝓤) (A : Atoms 𝓤) (mem : Memory → SProp 𝓤) (run : Routine → Fun 𝓤) → Contract 𝓤
 Change 𝓤 H A mem run = tripleOf 𝓤 H A by-value.signature (by-value.spec 𝓤 H A mem run)
 
-
 -- the record behind the borrow, and its fields
 abbrev behind : List Step → Place
 behind fields = place 1 (deref polled-ty ∷ fields)

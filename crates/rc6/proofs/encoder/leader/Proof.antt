@@ -6,7 +6,7 @@ use Prim.Native.Nat.{ℕ}
 use native.Mathlib.Omega.{arith}
 use lib.ListN.{length, length-set}
 use lib.Seq.{sets}
-use Rattle.rc6.specs.declared.encoder.Run.{Run}
+use Rattle.rc6.specs.declared.encoder.Stretch.{Stretch}
 use Rattle.rc6.specs.Encoder.{inTicks}
 use Rattle.rc6.specs.EncoderSteps.{written, after}
 use borrow.Author.Needs.{needs}
@@ -17,8 +17,8 @@ level-requires-2 : tie.Need-level-requires-2
 level-requires-2 c κs =
     let first = c .before .before .before .level in
     let out = c .before .before .before .before .before .before .args .out .now in
-    let at = ap (λ (r : Run). r .at) (first .ensures .0) in
-    let units = ap (λ (r : Run). r .units) (first .ensures .0) in
+    let at = ap (λ (r : Stretch). r .at) (first .ensures .0) in
+    let units = ap (λ (r : Stretch). r .units) (first .ensures .0) in
     let long = ap length (first .ensures .1) ∙ length-set out 0 _ in
     (omega (arith, at, long), omega (arith, units), search needs, search needs)
 
@@ -27,8 +27,8 @@ returns c =
     let unit = c .before .before .before .before .before .before .before .before .before .args .unit in
     let first = c .before .before .before .before .before .before .level .ensures in
     let second = c .before .before .level2 .ensures in (
-      second .0 ∙ ap (λ (r : Run). after r false 2) (first .0),
-      second .1 ∙ ap₂ (λ (out : List ℕ) (r : Run). sets out (r .at) (inTicks unit (written r false))) (first .1) (first .0),
+      second .0 ∙ ap (λ (r : Stretch). after r false 2) (first .0),
+      second .1 ∙ ap₂ (λ (out : List ℕ) (r : Stretch). sets out (r .at) (inTicks unit (written r false))) (first .1) (first .0),
     )
 
 pub leader-spec : {M : Type 1} → statement M

@@ -8,7 +8,7 @@ use Rattle.rc6.proofs.encoder.level.Tie as tie
 mul-out : tie.Need-mul-out
 mul-out c =
     let start = c .before .before in
-    record { fits = omega (arith, mul-le-mul-left (start .args .run .units) (start .pre .3)) }
+    record { fits = omega (arith, mul-le-mul-left (start .args .stretch .units) (start .pre .3)) }
 
 returns : tie.Need-returns
 returns c = (simp (c .before .if1 .taken, add-zero), simp (c .before .if1 .taken))

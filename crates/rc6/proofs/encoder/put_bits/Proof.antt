@@ -4,7 +4,7 @@ use Prim.Native.Nat.{_≤_, _+_, _-_}
 use native.Mathlib.Omega.{arith}
 use lib.ListN.{length}
 use lib.Seq.{sets, length-sets}
-use Rattle.rc6.specs.declared.encoder.Run.{Run}
+use Rattle.rc6.specs.declared.encoder.Stretch.{Stretch}
 use Rattle.rc6.specs.Encoder.{merged, inTicks}
 use Rattle.rc6.specs.EncoderSteps.{standing, wordLevels}
 use Rattle.rc6.proofs.Turns.{half-le, next-length, next-bit}
@@ -44,8 +44,8 @@ loop-again c =
     next-bit (args .word) (args .unit) (loop .left) (loop .next) (one .result) (half .result) (omega arith) (one .ensures) (half .ensures)
     (loop .out) (put .last .0) (put .result) (put .ensures .0) (put .ensures .1) in (
       omega arith,
-      omega (arith, ap (λ (r : Run). r .units) (put .ensures .0), half .ensures, half-le (loop .left - 1)),
-      ap (λ (r : Run). r .at + length (merged (standing r) (wordLevels (args .word) (loop .left - 1)))) (put .ensures .0) ∙ omega (arith, next),
+      omega (arith, ap (λ (r : Stretch). r .units) (put .ensures .0), half .ensures, half-le (loop .left - 1)),
+      ap (λ (r : Stretch). r .at + length (merged (standing r) (wordLevels (args .word) (loop .left - 1)))) (put .ensures .0) ∙ omega (arith, next),
       ap length (put .ensures .1) ∙ simp length-sets (loop .inv .3),
       laid ∙ loop .inv .4,
     )

@@ -3,7 +3,7 @@ use mathlib.Core.Path.{ap}
 use native.Mathlib.Nat.{mul-le-mul-left}
 use native.Mathlib.Omega.{arith}
 use lib.ListN.{length-set}
-use Rattle.rc6.specs.declared.encoder.Run.{Run}
+use Rattle.rc6.specs.declared.encoder.Stretch.{Stretch}
 use Rattle.rc6.proofs.Closing.{led-room, led-at, left-room, closing-at, closing-high, closing-low}
 use borrow.Author.Needs.{needs}
 use Rattle.rc6.proofs.encoder.write.Statement.{statement}
@@ -15,7 +15,7 @@ put-bits-requires c κs =
     let first = c .before .before .before .leader in
     let room = led-room (args .unit) (args .word) (args .out .now) (first .last .0) (first .result) (first .ensures .0) (first .ensures .1) in
     let at = led-at (args .unit) (args .word) (args .out .now) (first .last .0) (first .result) (first .ensures .0) (first .ensures .1) in
-    (omega (arith, room, at), omega (arith, ap (λ (r : Run). r .units) (first .ensures .0)), search needs)
+    (omega (arith, room, at), omega (arith, ap (λ (r : Stretch). r .units) (first .ensures .0)), search needs)
 
 mul-out : tie.Need-mul-out
 mul-out c =
