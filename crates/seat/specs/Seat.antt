@@ -2,7 +2,7 @@
 -- Encoding is `receiver`'s, by number; here stands what a lookup returns, 0 or document 01's refusal number, and the place that it stores.
 use Prim.Native.Nat.{ℕ}
 use Rattle.spans.specs.Spans.{spansOf, refusalNumber}
-use Rattle.spans.specs.Lookup.{lookupOf, placeOf}
+use Rattle.spans.specs.Lookup.{none, lookupOf, placeOf}
 use Rattle.spans.specs.declared.Spans.{Spans}
 use Rattle.spans.specs.declared.Answer.{Answer}
 use Rattle.spans.specs.declared.Answer.the-variants.{Taken, Refused}
@@ -11,10 +11,10 @@ use Rattle.spans.specs.declared.Answer.the-variants.{Taken, Refused}
 abbrev pub lookupNumber : ℕ → ℕ → ℕ
 lookupNumber protocol rate = refusalNumber (spansOf protocol rate .answer)
 
--- "the lowest place, counted from 0, whose span holds the duration, or none": none is 8; a refusal looks nothing up, so it is none
+-- "the lowest place, counted from 0, whose span holds the duration, or none"; a refusal looks nothing up, so it is none
 abbrev pub placeWith : Answer → Spans → ℕ → ℕ
 placeWith Taken spans duration = placeOf (lookupOf spans duration)
-placeWith (Refused number) spans duration = 8
+placeWith (Refused number) spans duration = none
 
 -- the place that a lookup stores
 abbrev pub lookupPlace : ℕ → ℕ → ℕ → ℕ

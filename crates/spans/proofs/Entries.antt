@@ -1,19 +1,14 @@
 -- A bound on every entry of a table of rows, from one test that is computed over the whole table. Past its end an entry is 0.
 -- Assumes nothing.
-use mathlib.Core.Bool.{Bool, true, false, _&&_}
+use mathlib.Core.Path.{_≡_}
+use mathlib.Core.Bool.{Bool, true, _&&_}
 use mathlib.Core.List.{List, [], _∷_}
 use Prim.Native.Nat.{ℕ, zero, suc, _≤_, zero-le}
-use lib.Dec.{T, leb, leb→le}
+use lib.Dec.{leb}
+use borrow.Author.Tests.{leb-true}
 use lib.ListN.{getD}
 use Rattle.spans.specs.Tables.{entry}
-
-both-left : (a b : Bool) → T (a && b) → T a
-both-left true b t = tt
-both-left false b t = t
-
-both-right : (a b : Bool) → T (a && b) → T b
-both-right true b t = t
-both-right false b t = absurd t
+use Rattle.spans.proofs.Within.{both-left, both-right}
 
 abbrev rowLe : ℕ → List ℕ → Bool
 rowLe m [] = true
@@ -23,12 +18,12 @@ abbrev pub tableLe : ℕ → List (List ℕ) → Bool
 tableLe m [] = true
 tableLe m (r ∷ rs) = rowLe m r && tableLe m rs
 
-row-le : (m : ℕ) (r : List ℕ) → T (rowLe m r) → (i : ℕ) → getD r i 0 ≤ m
-row-le m [] t i = zero-le
-row-le m (x ∷ xs) t zero = leb→le x m (both-left (leb x m) (rowLe m xs) t)
-row-le m (x ∷ xs) t (suc i) = row-le m xs (both-right (leb x m) (rowLe m xs) t) i
+row-le : (m : ℕ) (r : List ℕ) → rowLe m r ≡ true → (i : ℕ) → getD r i 0 ≤ m
+row-le m [] e i = zero-le
+row-le m (x ∷ xs) e zero = leb-true x m (both-left (leb x m) (rowLe m xs) e)
+row-le m (x ∷ xs) e (suc i) = row-le m xs (both-right (leb x m) (rowLe m xs) e) i
 
-pub entry-le : (m : ℕ) (rs : List (List ℕ)) → T (tableLe m rs) → (row place : ℕ) → entry rs row place ≤ m
-entry-le m [] t row place = zero-le
-entry-le m (r ∷ rs) t zero place = row-le m r (both-left (rowLe m r) (tableLe m rs) t) place
-entry-le m (r ∷ rs) t (suc row) place = entry-le m rs (both-right (rowLe m r) (tableLe m rs) t) row place
+pub entry-le : (m : ℕ) (rs : List (List ℕ)) → tableLe m rs ≡ true → (row place : ℕ) → entry rs row place ≤ m
+entry-le m [] e row place = zero-le
+entry-le m (r ∷ rs) e zero place = row-le m r (both-left (rowLe m r) (tableLe m rs) e) place
+entry-le m (r ∷ rs) e (suc row) place = entry-le m rs (both-right (rowLe m r) (tableLe m rs) e) row place

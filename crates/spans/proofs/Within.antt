@@ -1,4 +1,4 @@
--- What the test `within` tells of its numbers. Assumes nothing.
+-- What two tests that both hold tell, and so what `within` tells of its numbers. Assumes nothing.
 use mathlib.Core.Path.{_≡_}
 use mathlib.Core.Bool.{Bool, true, false, _&&_}
 use Prim.Native.Nat.{ℕ, _≤_}
@@ -6,11 +6,11 @@ use lib.Dec.{leb}
 use borrow.Author.Tests.{leb-true}
 use Rattle.spans.specs.Spans.{within}
 
-both-left : (a b : Bool) → (a && b) ≡ true → a ≡ true
+pub both-left : (a b : Bool) → (a && b) ≡ true → a ≡ true
 both-left true b e = cc
 both-left false b e = e
 
-both-right : (a b : Bool) → (a && b) ≡ true → b ≡ true
+pub both-right : (a b : Bool) → (a && b) ≡ true → b ≡ true
 both-right true b e = e
 both-right false b e = cc
 

@@ -25,7 +25,11 @@ lookupIn low high duration = lowestFrom low high duration 8 0
 abbrev pub lookupOf : Spans → ℕ → Found
 lookupOf spans duration = lookupIn (spans .low) (spans .high) duration
 
--- the place as a number; 8 is none of the eight
+-- the number that stands for none of the eight
+abbrev pub none : ℕ
+none = 8
+
+-- the place as a number
 abbrev pub placeOf : Found → ℕ
 placeOf (At place) = place
-placeOf Nothing = 8
+placeOf Nothing = none
