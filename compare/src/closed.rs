@@ -3,7 +3,7 @@
 use std::ffi::OsString;
 use std::io;
 
-use crate::ended::{End, Ended, Output, Program};
+use crate::ended::{End, Ended, Input, Output, Program};
 use crate::mutated::{show, Part};
 use crate::mutated_lines::recorded_lines;
 
@@ -15,11 +15,13 @@ const DONE: End = End::Status(0);
 /// The run that has nothing to write.
 const NO_INPUT: &str = "replay, no input";
 
-/// What is run, where its output goes, and how it may end.
+const ENDLESS: &str = "replay, calls without end";
+
+/// Where the output goes, and how a program may end that has something to write: in more than one
+/// way where it hangs on who is faster.
 struct Case {
     name: &'static str,
     output: Output,
-    /// With output to write; more than one where it hangs on who is faster.
     ends: &'static [End],
 }
 
@@ -44,7 +46,7 @@ pub fn run(program: &Program, part: &mut Part) -> io::Result<Vec<String>> {
     let mut told = Vec::new();
     for case in &CASES {
         let mut ends = Vec::new();
-        for (name, words, input) in runs()? {
+        for (name, words, input) in case.runs()? {
             let ended = program.run(&words, input, case.output)?;
             let input = format!("{}, {}", name, case.name);
             part.tried(case.name, input.as_bytes(), ended.end != End::Never);
@@ -57,25 +59,25 @@ pub fn run(program: &Program, part: &mut Part) -> io::Result<Vec<String>> {
     Ok(told)
 }
 
-/// The words and the input of each run.
-fn runs() -> io::Result<Vec<(&'static str, Vec<OsString>, Vec<u8>)>> {
-    let words = |words: &str| words.split(' ').map(OsString::from).collect();
-    let many = [recorded_lines()?.join(&b'\n'), b"\n".to_vec()].concat();
+/// A run's name, its words and its input.
+type Run = (&'static str, Vec<OsString>, Input);
+
+fn one_run(name: &'static str, words: &str, input: Input) -> Run {
+    (name, words.split(' ').map(OsString::from).collect(), input)
+}
+
+/// The answers to the many calls do not fit a pipe.
+fn runs() -> io::Result<Vec<Run>> {
+    let call = b"lookup 3 1000000 1989\n".to_vec();
+    let calls = [recorded_lines()?.join(&b'\n'), b"\n".to_vec()].concat();
+    let none = || Input::Once(Vec::new());
     Ok(vec![
-        (NO_INPUT, words("replay"), Vec::new()),
-        (
-            "replay, one call",
-            words("replay"),
-            b"lookup 3 1000000 1989\n".to_vec(),
-        ),
-        (
-            "replay, all recorded calls",
-            words("replay"),
-            many.repeat(3),
-        ),
-        ("tour", words("tour"), Vec::new()),
-        ("tour spans", words("tour spans"), Vec::new()),
-        ("tour, bad words", words("tour frame 1 x"), Vec::new()),
+        one_run(NO_INPUT, "replay", none()),
+        one_run("replay, one call", "replay", Input::Once(call)),
+        one_run("replay, many calls", "replay", Input::Once(calls.repeat(3))),
+        one_run("tour", "tour", none()),
+        one_run("tour spans", "tour spans", none()),
+        one_run("tour, bad words", "tour frame 1 x", none()),
     ])
 }
 
@@ -86,6 +88,17 @@ fn is_wrong(case: &Case, name: &str, ended: &Ended) -> bool {
 }
 
 impl Case {
+    /// Where a write fails replay reads on to the end of its input. So calls without end are tried
+    /// only where the pipe's signal ends it.
+    fn runs(&self) -> io::Result<Vec<Run>> {
+        let mut all = runs()?;
+        if self.ends.contains(&BY_PIPE) {
+            let calls = b"lookup 3 1000000 1989\n".repeat(1000);
+            all.push(one_run(ENDLESS, "replay", Input::Endless(calls)));
+        }
+        Ok(all)
+    }
+
     /// The ends and how often each came; it is left open where it hangs on who is faster.
     fn show(&self, ends: &[End]) -> String {
         let told = |end: &End| {

@@ -30,6 +30,12 @@ pub enum Output {
     NoSignal,
 }
 
+/// What is read: a text, or that text again and again until the program ends.
+pub enum Input {
+    Once(Vec<u8>),
+    Endless(Vec<u8>),
+}
+
 /// What came of a run; the errors are what was written to standard error.
 #[derive(PartialEq)]
 pub struct Ended {
@@ -54,7 +60,7 @@ pub struct Program<'a> {
 
 impl Program<'_> {
     /// Runs it with these words and that input.
-    pub fn run(&self, words: &[OsString], input: Vec<u8>, output: Output) -> io::Result<Ended> {
+    pub fn run(&self, words: &[OsString], input: Input, output: Output) -> io::Result<Ended> {
         let mut child = self
             .command(output)
             .args(self.words)
@@ -65,7 +71,7 @@ impl Program<'_> {
         let stdin = child.stdin.take().expect("the program's input is a pipe");
         let stdout = child.stdout.take();
         let stderr = child.stderr.take().expect("its errors are a pipe");
-        let writer = thread::spawn(move || feed(stdin, &input));
+        let writer = thread::spawn(move || feed(stdin, input));
         let reader =
             thread::spawn(move || stdout.map_or(Ok(Vec::new()), |from| taken(from, output)));
         let errors = thread::spawn(move || read_all(stderr));
@@ -103,8 +109,13 @@ impl Program<'_> {
 }
 
 /// A program may end before it has read all: what is not read is no fault.
-fn feed(mut to: ChildStdin, input: &[u8]) {
-    let _ = to.write_all(input);
+fn feed(mut to: ChildStdin, input: Input) {
+    match input {
+        Input::Once(text) => {
+            let _ = to.write_all(&text);
+        }
+        Input::Endless(text) => while to.write_all(&text).is_ok() {},
+    }
 }
 
 /// What a reader of that kind takes before it goes.

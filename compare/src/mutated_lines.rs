@@ -6,7 +6,7 @@ use std::io;
 
 use crate::answers::{self, Counts};
 use crate::calls::Call;
-use crate::ended::{End, Ended, Output, Program};
+use crate::ended::{End, Ended, Input, Output, Program};
 use crate::mutate::{self, KINDS};
 use crate::mutated::{shown, Part};
 use crate::random::Random;
@@ -17,7 +17,7 @@ const SEED: u64 = 1;
 /// Behind each recorded line.
 const MUTATED: usize = 3;
 
-/// So many lines that differ are told of a run.
+/// So many lines that are other are told of a run.
 const TOLD: usize = 3;
 
 /// Who answered, the recorded lines too.
@@ -68,7 +68,8 @@ fn push_line(input: &mut Vec<u8>, line: &[u8]) {
 pub fn compare(program: &Program, input: &[u8]) -> io::Result<(Counts, Option<String>)> {
     let mut expected = Vec::new();
     let counts = answers::answer_all(input, &mut expected)?;
-    let ended = program.run(&[OsString::from("replay")], input.to_vec(), Output::Kept)?;
+    let given = Input::Once(input.to_vec());
+    let ended = program.run(&[OsString::from("replay")], given, Output::Kept)?;
     let as_expected = Ended {
         end: End::Status(0),
         output: expected,
@@ -80,31 +81,32 @@ pub fn compare(program: &Program, input: &[u8]) -> io::Result<(Counts, Option<St
 }
 
 fn difference(input: &[u8], expected: &[u8], ended: &Ended) -> String {
-    let mut told = format!(
-        "replay, input of {} bytes: {}, output of {} bytes where {} are expected, errors '{}'",
-        input.len(),
-        ended.end.show(),
-        ended.output.len(),
-        expected.len(),
-        shown(&ended.errors)
-    );
+    let mut told = Vec::new();
     let mut lines = split(input);
     let mut actual = split(&ended.output);
-    let mut left = TOLD;
     for (number, expected) in split(expected).enumerate() {
         let (line, actual) = (lines.next(), actual.next());
-        if actual != Some(expected) && left > 0 {
-            left -= 1;
-            told += &format!(
+        if actual != Some(expected) {
+            told.push(format!(
                 "\n  line {}\n  call     {}\n  expected {}\n  actual   {}",
                 number + 1,
                 line.map_or_else(String::new, shown),
                 shown(expected),
                 actual.map_or_else(|| "(missing)".to_string(), shown)
-            );
+            ));
         }
     }
-    told
+    format!(
+        "replay, input of {} bytes: {}, errors '{}', output of {} bytes where {} are expected, \
+         lines that are other {}{}",
+        input.len(),
+        ended.end.show(),
+        shown(&ended.errors),
+        ended.output.len(),
+        expected.len(),
+        told.len(),
+        told[..told.len().min(TOLD)].concat()
+    )
 }
 
 fn split(text: &[u8]) -> impl Iterator<Item = &[u8]> {

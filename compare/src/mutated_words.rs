@@ -4,7 +4,7 @@ use std::ffi::OsString;
 use std::io;
 use std::os::unix::ffi::OsStringExt;
 
-use crate::ended::{End, Ended, Output, Program};
+use crate::ended::{End, Ended, Input, Output, Program};
 use crate::mutate::{self, renumber, EDGES};
 use crate::mutated::{show, shown, Part};
 use crate::random::Random;
@@ -115,7 +115,7 @@ pub fn run(program: &Program, times: u32, part: &mut Part) -> io::Result<()> {
 
 fn told(program: &Program, words: &[OsString]) -> io::Result<Ended> {
     let words = [&[OsString::from("tour")], words].concat();
-    program.run(&words, Vec::new(), Output::Kept)
+    program.run(&words, Input::Once(Vec::new()), Output::Kept)
 }
 
 /// Bad words end with status 0, as good ones do. What `help` prints says nothing of the crate: it
