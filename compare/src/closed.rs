@@ -109,8 +109,9 @@ impl Case {
             let names: Vec<String> = self.ends.iter().map(|end| end.show()).collect();
             return names.join(" or ");
         }
-        let mut shown: Vec<String> = ends.iter().map(told).collect();
-        shown.dedup();
+        let is_first = |&(place, end): &(usize, &End)| !ends[..place].contains(end);
+        let firsts = ends.iter().enumerate().filter(is_first);
+        let shown: Vec<String> = firsts.map(|(_, end)| told(end)).collect();
         shown.join(", ")
     }
 }

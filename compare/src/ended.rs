@@ -30,6 +30,12 @@ pub enum Output {
     NoSignal,
 }
 
+impl Output {
+    fn has_no_reader(self) -> bool {
+        matches!(self, Output::NoReader | Output::NoSignal)
+    }
+}
+
 /// What is read: a text, or that text again and again until the program ends.
 pub enum Input {
     Once(Vec<u8>),
@@ -69,7 +75,8 @@ impl Program<'_> {
             .stderr(Stdio::piped())
             .spawn()?;
         let stdin = child.stdin.take().expect("the program's input is a pipe");
-        let stdout = child.stdout.take();
+        // A reader that goes at once goes here, long before anything is written.
+        let stdout = child.stdout.take().filter(|_| !output.has_no_reader());
         let stderr = child.stderr.take().expect("its errors are a pipe");
         let writer = thread::spawn(move || feed(stdin, input));
         let reader =
@@ -118,16 +125,13 @@ fn feed(mut to: ChildStdin, input: Input) {
     }
 }
 
-/// What a reader of that kind takes before it goes.
+/// What a reader takes before it goes.
 fn taken(from: ChildStdout, output: Output) -> io::Result<Vec<u8>> {
-    let mut line = Vec::new();
-    match output {
-        Output::NoReader | Output::NoSignal => {}
-        Output::OneLine => {
-            BufReader::new(from).read_until(b'\n', &mut line)?;
-        }
-        Output::Kept | Output::Closed | Output::Full => return read_all(from),
+    if output != Output::OneLine {
+        return read_all(from);
     }
+    let mut line = Vec::new();
+    BufReader::new(from).read_until(b'\n', &mut line)?;
     Ok(line)
 }
 
