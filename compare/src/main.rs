@@ -3,18 +3,25 @@
 
 mod answers;
 mod calls;
+mod closed;
 mod decoders;
 mod document;
 mod edge_kinds;
 mod edge_lists;
 mod encode;
 mod encoders;
+mod ended;
 mod frame_lists;
 mod frames;
 mod judge;
 mod large;
 mod lists;
 mod model;
+mod mutate;
+mod mutated;
+mod mutated_files;
+mod mutated_lines;
+mod mutated_words;
 mod oracle;
 mod poll_lists;
 mod poll_model;
@@ -43,6 +50,7 @@ use std::ffi::OsString;
 use std::io::{self, BufWriter, Write};
 use std::process::ExitCode;
 
+use crate::ended::Program;
 use crate::large::Choice;
 
 const USAGE: &str = "usage:
@@ -54,6 +62,10 @@ const USAGE: &str = "usage:
   compare large [--part NAME] [--times N] PROGRAM [ARGS..]
                                      the large run against a program; the parts of edges
                                      and of polls are made N times longer
+  compare mutated [--times N] PROGRAM [ARGS..]
+                                     bad input to the program with the word replay or tour
+                                     behind ARGS: mutated lines, files and words, closed
+                                     outputs; N passes
   compare rates                      where the crate's spans are ours, over every rate
   compare tour WORDS..               what the program tour prints
 the parts of the large run:";
@@ -94,6 +106,12 @@ fn run(words: &[OsString]) -> io::Result<Option<bool>> {
             }
             _ => Ok(None),
         },
+        ("mutated", words) => match choose_times(words) {
+            Some((times, [name, words @ ..])) => {
+                mutated::run(out, times, &Program { name, words }).map(Some)
+            }
+            _ => Ok(None),
+        },
         ("rates", []) => rates::run(out).map(Some),
         ("tour", words) => tour::run(out, words),
         _ => Ok(None),
@@ -111,12 +129,18 @@ fn choose(words: &[OsString]) -> Option<(Choice, &[OsString])> {
         }
         _ => (&lists::PARTS[..], words),
     };
+    let (times, words) = choose_times(words)?;
+    Some((Choice { parts, times }, words))
+}
+
+/// How many times, and the words after. `None` where the number is none.
+fn choose_times(words: &[OsString]) -> Option<(u32, &[OsString])> {
     let (times, words) = match words {
         [option, times, rest @ ..] if option == "--times" => (number(times)?, rest),
         _ => (1, words),
     };
     let times = u32::try_from(times).ok().filter(|&times| times > 0)?;
-    Some((Choice { parts, times }, words))
+    Some((times, words))
 }
 
 fn number(word: &OsString) -> Option<u64> {

@@ -16,6 +16,9 @@ use crate::tour_send::{self, Send};
 /// The rate of the tour, 1 MHz.
 pub const RATE: u32 = 1_000_000;
 
+/// Of a longer word tour knows no more than that it is no number.
+pub const LONGEST_WORD: usize = 4096;
+
 const OPENING: &str = "\
 An infrared receiver, proved: a tour. All of it is at 1 MHz, where a tick is a microsecond.
 A command is shown as nec ADDRESS COMMAND REPEAT, rc5 ADDRESS COMMAND START TOGGLE or rc6 ADDRESS COMMAND TOGGLE.
@@ -40,7 +43,7 @@ const CLOSING: &str = "
 ./run help lists what else can be tried.
 ";
 
-const NOT_UNDERSTOOD: &str = "not understood: ./run help lists what is\n";
+pub const NOT_UNDERSTOOD: &str = "not understood: ./run help lists what is\n";
 
 /// Document 01's starred pulses: 13500, eight of 2250, 5000, 11250.
 const BROKEN: [u32; 22] = [
@@ -64,8 +67,11 @@ pub fn run(out: &mut impl Write, words: &[OsString]) -> io::Result<Option<bool>>
     shown.map(|()| Some(true))
 }
 
-fn number<N: TryFrom<u64>>(word: &OsString) -> Option<N> {
-    N::try_from(calls::number(word.to_str()?.as_bytes())?).ok()
+/// A number is a word of at most 4096 bytes, and of at most 32 bits.
+fn number<N: TryFrom<u32>>(word: &OsString) -> Option<N> {
+    let digits = word.to_str().filter(|word| word.len() <= LONGEST_WORD)?;
+    let number = u32::try_from(calls::number(digits.as_bytes())?).ok()?;
+    N::try_from(number).ok()
 }
 
 /// RATE and DURATION, where they are given.
@@ -85,7 +91,7 @@ fn command_words(words: &[OsString]) -> Option<Command> {
         [start, toggle] => (number(start)?, number(toggle)?),
         _ => return None,
     };
-    if toggle > 1u64 {
+    if toggle > 1u32 {
         return None;
     }
     Some(Command {
