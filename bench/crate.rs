@@ -62,12 +62,12 @@ impl Code for DenonCommand {
     }
 }
 
-fn report_code<C: Code>(report: Result<Option<C>, DecodingError>) -> u64 {
+fn add<C: Code>(sum: u64, report: Result<Option<C>, DecodingError>) -> u64 {
     match report {
-        Ok(None) => 0,
-        Ok(Some(command)) => command.code(),
-        Err(DecodingError::Address) => 1099511627776,
-        Err(_) => 4294967296,
+        Ok(None) => sum,
+        Ok(Some(command)) => sum.wrapping_add(command.code()),
+        Err(DecodingError::Address) => sum.wrapping_add(1099511627776),
+        Err(_) => sum.wrapping_add(4294967296),
     }
 }
 
@@ -79,7 +79,7 @@ where
     let mut sum: u64 = 0;
     let mut rising = true;
     for &duration in durations {
-        sum = sum.wrapping_add(report_code(decoder.event_total(rising, duration)));
+        sum = add(sum, decoder.event_total(rising, duration));
         rising = !rising;
     }
     sum

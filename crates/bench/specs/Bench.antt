@@ -46,15 +46,16 @@ abbrev pub faultCode : Fault → ℕ
 faultCode Address = 1099511627776
 faultCode Data = 4294967296
 
-abbrev pub reportCode : Report → ℕ
-reportCode report.Nothing = 0
-reportCode (report.Command command) = commandCode command
-reportCode (report.Error fault) = faultCode fault
-reportCode (report.Refused number) = number
+-- on 64 bits
+abbrev pub plus : ℕ → ℕ → ℕ
+plus sum code = (sum + code) % 2 ^ 64
 
--- one more report, on 64 bits
+-- one more report
 abbrev pub added : ℕ → Report → ℕ
-added sum report = (sum + reportCode report) % 2 ^ 64
+added sum report.Nothing = sum
+added sum (report.Command command) = plus sum (commandCode command)
+added sum (report.Error fault) = plus sum (faultCode fault)
+added sum (report.Refused number) = plus sum number
 
 unfoldable pub addedAll : ℕ → List Report → ℕ
 addedAll sum [] = sum

@@ -14,7 +14,7 @@ use reports::Report;
 use sbp::decoder::SbpDecoder;
 ghost use mathlib.Core.Path.{_≡_};
 ghost use Prim.Native.Nat.{_≤_};
-ghost use Rattle.bench.specs.Bench.{flagCode, necCode, rc5Code, rc6Code, sbpCode, commandCode, faultCode, reportCode, added, necSum, rc5Sum, rc6Sum, sbpSum, denonSum};
+ghost use Rattle.bench.specs.Bench.{flagCode, necCode, rc5Code, rc6Code, sbpCode, commandCode, faultCode, added, necSum, rc5Sum, rc6Sum, sbpSum, denonSum};
 
 // Above the numbers of a command.
 fn flag_code(flag: bool) -> u64
@@ -68,21 +68,16 @@ fn fault_code(fault: Fault) -> u64
     }
 }
 
-fn report_code(report: Report) -> u64
-    ensures { λ r. ⌜ r ≡ reportCode report ⌝ }
-{
-    match report {
-        Report::Nothing => 0,
-        Report::Command(command) => command_code(command),
-        Report::Error(fault) => fault_code(fault),
-        Report::Refused(number) => number as u64,
-    }
-}
-
+// Nothing adds nothing: most edges report it, and the sum then costs no instruction.
 fn add(sum: u64, report: Report) -> u64
     ensures { λ r. ⌜ r ≡ added sum report ⌝ }
 {
-    std::num::wrapping_add_u64(sum, report_code(report))
+    match report {
+        Report::Nothing => sum,
+        Report::Command(command) => std::num::wrapping_add_u64(sum, command_code(command)),
+        Report::Error(fault) => std::num::wrapping_add_u64(sum, fault_code(fault)),
+        Report::Refused(number) => std::num::wrapping_add_u64(sum, number as u64),
+    }
 }
 
 #[no_mangle]
