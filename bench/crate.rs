@@ -1,5 +1,6 @@
 //! The crate's side: the same edges through its decoders' event_total, and the same number from its reports.
-//! bench/run puts this file among the crate's own, so that all of it is one compilation. Each event_total has one caller.
+//! bench/run puts this file among the crate's own, so that all of it is one compilation. Each event_total has one caller: polls are a compilation
+//! of their own.
 
 use crate::protocol::denon::DenonCommand;
 use crate::protocol::nec::NecCommand;
@@ -7,7 +8,7 @@ use crate::protocol::rc5::Rc5Command;
 use crate::protocol::rc6::Rc6Command;
 use crate::protocol::sbp::SbpCommand;
 use crate::protocol::{Denon, Nec, Rc5, Rc6, Sbp};
-use crate::receiver::{DecoderFactory, DecodingError, ProtocolDecoder};
+use crate::receiver::{DecoderFactory, DecodingError, PeriodicPoll, ProtocolDecoder};
 use crate::sender::ProtocolEncoder;
 
 #[panic_handler]
@@ -71,6 +72,7 @@ fn add<C: Code>(sum: u64, report: Result<Option<C>, DecodingError>) -> u64 {
     }
 }
 
+#[cfg(not(polls))]
 fn run<P: DecoderFactory<u32>>(durations: &[u32], rate: u32) -> u64
 where
     P::Cmd: Code,
@@ -85,36 +87,78 @@ where
     sum
 }
 
+#[cfg(polls)]
+fn polls<P: DecoderFactory<u32>>(levels: &[u8], rate: u32) -> u64
+where
+    P::Cmd: Code,
+{
+    let mut receiver = PeriodicPoll::<P>::new(rate);
+    let mut sum: u64 = 0;
+    for &level in levels {
+        sum = add(sum, receiver.poll(level == 1));
+    }
+    sum
+}
+
+#[cfg(not(polls))]
 macro_rules! exported {
-    ($($name:ident $protocol:ty,)*) => {
+    ($($protocol:ty, $run:ident $record:ident;)*) => {
         $(#[no_mangle]
-        pub unsafe extern "C" fn $name(durations: *const u32, count: usize, rate: u32) -> u64 {
+        pub unsafe extern "C" fn $run(durations: *const u32, count: usize, rate: u32) -> u64 {
             run::<$protocol>(core::slice::from_raw_parts(durations, count), rate)
-        })*
+        }
+
+        #[no_mangle]
+        pub static $record: usize = core::mem::size_of::<<$protocol as DecoderFactory<u32>>::Decoder>();)*
     };
 }
 
+#[cfg(not(polls))]
 exported! {
-    crate_nec Nec,
-    crate_rc5 Rc5,
-    crate_rc6 Rc6,
-    crate_sbp Sbp,
-    crate_denon Denon,
+    Nec, crate_nec crate_record_nec;
+    Rc5, crate_rc5 crate_record_rc5;
+    Rc6, crate_rc6 crate_record_rc6;
+    Sbp, crate_sbp crate_record_sbp;
+    Denon, crate_denon crate_record_denon;
+}
+
+#[cfg(polls)]
+macro_rules! exported {
+    ($($protocol:ty, $polls:ident $record:ident;)*) => {
+        $(#[no_mangle]
+        pub unsafe extern "C" fn $polls(levels: *const u8, count: usize, _protocol: u32, rate: u32) -> u64 {
+            polls::<$protocol>(core::slice::from_raw_parts(levels, count), rate)
+        }
+
+        #[no_mangle]
+        pub static $record: usize = core::mem::size_of::<PeriodicPoll<$protocol>>();)*
+    };
+}
+
+#[cfg(polls)]
+exported! {
+    Nec, crate_polls_nec crate_polled_record_nec;
+    Rc5, crate_polls_rc5 crate_polled_record_rc5;
+    Rc6, crate_polls_rc6 crate_polled_record_rc6;
+    Sbp, crate_polls_sbp crate_polled_record_sbp;
+    Denon, crate_polls_denon crate_polled_record_denon;
 }
 
 const RATE: u32 = 1_000_000;
 
-/// The room is lent as it is for ours; the crate does not ask for its length.
+/// The crate's encoders have their rate as a const parameter.
+#[cfg(not(polls))]
 macro_rules! encoders {
     ($($name:ident $protocol:ty, $command:expr;)*) => {
         $(#[no_mangle]
-        pub unsafe extern "C" fn $name(addr: u8, cmd: u8, start: u8, toggle: bool, frame: *mut u32, room: usize) -> usize {
+        pub unsafe extern "C" fn $name(addr: u8, cmd: u8, start: u8, toggle: bool, _rate: u32, frame: *mut u32, room: usize) -> usize {
             let command = $command(addr, cmd, start, toggle);
             <$protocol as ProtocolEncoder<RATE>>::encode(&command, core::slice::from_raw_parts_mut(frame, room))
         })*
     };
 }
 
+#[cfg(not(polls))]
 encoders! {
     crate_encode_nec Nec, |addr, cmd, _, _| NecCommand { addr, cmd, repeat: false };
     crate_encode_rc5 Rc5, |addr, cmd, start, toggle| Rc5Command { addr, cmd, start, toggle };

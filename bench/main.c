@@ -1,7 +1,9 @@
-/* The driver of bench/run: makes edges and hands them to one side.
- *   main SIDE ROW COUNT     SIDE: ours or crate; COUNT: how many edges
- * Prints the number that the reports come to. Both sides get the same edges, at 1 MHz, the first one rising. All edges are made
- * whatever the COUNT, so that between two COUNTs only the work on the edges differs. */
+/* The driver of bench/run: makes edges, commands or levels and hands them to one side.
+ *   main SIDE KIND PROTOCOL COUNT
+ * SIDE is ours or crate; KIND is frames, noise, encode, quiet or polled; COUNT is how many of them.
+ *   main SIDE record PROTOCOL 0, main SIDE stack PROTOCOL COUNT
+ * Prints the number that the reports come to; a count of bytes for record and stack. Both sides get the same input, at 1 MHz, the first edge
+ * rising; polls are at 40 kHz. All input is made whatever the COUNT, so that between two COUNTs only the work on it differs. */
 #include <stdbool.h>
 #include <stdint.h>
 #include <stdio.h>
@@ -10,17 +12,29 @@
 
 #define ROOM 65536
 #define RATE 1000000
+#define POLL 25 /* ticks between polls */
+#define FRAME 67
 
 typedef uint64_t run_edges(const uint32_t *durations, size_t count, uint32_t rate);
 
-#define SIDES(name) run_edges bench_##name, crate_##name;
-SIDES(nec) SIDES(rc5) SIDES(rc6) SIDES(sbp) SIDES(denon)
+typedef uint64_t run_polls(const uint8_t *levels, size_t count, uint32_t protocol, uint32_t rate);
+typedef size_t encode_frame(uint8_t addr, uint8_t cmd, uint8_t start, bool toggle, uint32_t rate, uint32_t *frame, size_t room);
 
-typedef size_t encode_frame(uint8_t addr, uint8_t cmd, uint8_t start, bool toggle, uint32_t *frame, size_t room);
-encode_frame crate_encode_nec, crate_encode_rc5, crate_encode_rc6;
+run_polls bench_polls;
+#define SIDES(name) \
+    run_edges bench_##name, crate_##name; \
+    run_polls crate_polls_##name; \
+    encode_frame bench_encode_##name, crate_encode_##name; \
+    extern const size_t crate_record_##name, crate_polled_record_##name;
+SIDES(nec) SIDES(rc5) SIDES(rc6) SIDES(sbp) SIDES(denon)
 
 static uint32_t edges[ROOM + 256];
 static size_t made;
+static uint8_t levels[ROOM];
+static struct command {
+    uint8_t addr, cmd, start;
+    bool toggle;
+} commands[ROOM];
 
 /* splitmix64, from a fixed seed */
 static uint32_t below(uint32_t bound) {
@@ -54,18 +68,18 @@ static void sent(const uint32_t *frame, size_t count, uint32_t wrong) {
 }
 
 static void nec_frame(void) {
-    uint32_t frame[67];
-    sent(frame, crate_encode_nec(below(256), below(256), 0, 0, frame, 67), 28);
+    uint32_t frame[FRAME];
+    sent(frame, crate_encode_nec(below(256), below(256), 0, 0, RATE, frame, FRAME), 28);
 }
 
 static void rc5_frame(void) {
-    uint32_t frame[67];
-    sent(frame, crate_encode_rc5(below(32), below(64), 2 + below(2), below(2), frame, 67), 60);
+    uint32_t frame[FRAME];
+    sent(frame, crate_encode_rc5(below(32), below(64), 2 + below(2), below(2), RATE, frame, FRAME), 60);
 }
 
 static void rc6_frame(void) {
-    uint32_t frame[67];
-    sent(frame, crate_encode_rc6(below(256), below(256), 0, below(2), frame, 67), 40);
+    uint32_t frame[FRAME];
+    sent(frame, crate_encode_rc6(below(256), below(256), 0, below(2), RATE, frame, FRAME), 40);
 }
 
 static void sbp_frame(void) {
@@ -83,45 +97,95 @@ static void denon_frame(void) {
 }
 
 /* durations of every size that the five protocols know, and beyond */
-static void noise(void) {
+static void make_noise(void) {
     static const uint32_t bounds[] = {1000, 3000, 15000, 100000};
-    edge(below(bounds[below(4)]), 0);
+    while (made < ROOM) edge(below(bounds[below(4)]), 0);
 }
 
 struct row {
     const char *name;
-    run_edges *ours, *crates;
+    run_edges *edges[2];
+    run_polls *polls[2];
+    encode_frame *encode[2];
     void (*frame)(void);
 };
 
+#define RUNS(name) #name, {bench_##name, crate_##name}, {bench_polls, crate_polls_##name}
+
 static const struct row rows[] = {
-    {"nec", bench_nec, crate_nec, nec_frame},
-    {"rc5", bench_rc5, crate_rc5, rc5_frame},
-    {"rc6", bench_rc6, crate_rc6, rc6_frame},
-    {"sbp", bench_sbp, crate_sbp, sbp_frame},
-    {"denon", bench_denon, crate_denon, denon_frame},
+    {RUNS(nec), {bench_encode_nec, crate_encode_nec}, nec_frame},
+    {RUNS(rc5), {bench_encode_rc5, crate_encode_rc5}, rc5_frame},
+    {RUNS(rc6), {bench_encode_rc6, crate_encode_rc6}, rc6_frame},
+    {RUNS(sbp), {0}, sbp_frame},
+    {RUNS(denon), {0}, denon_frame},
 };
 
-static void make_edges(const struct row *row, bool frames) {
+static void make_frames(const struct row *row) {
     while (made < ROOM) {
-        if (frames) {
-            silence();
-            row->frame();
-        } else noise();
+        silence();
+        row->frame();
     }
+}
+
+/* the level before each edge, poll by poll; the first edge is a rising one */
+static void make_levels(void) {
+    uint64_t now = 0, polled = 0;
+    for (size_t i = 0; polled < ROOM; i++) {
+        now += edges[i];
+        while (polled < ROOM && polled * POLL < now) levels[polled++] = i % 2;
+    }
+}
+
+static void make_commands(const struct row *row) {
+    bool narrow = row->encode[0] == bench_encode_rc5;
+    for (size_t i = 0; i < ROOM; i++) {
+        struct command made = {(uint8_t)below(narrow ? 32 : 256), (uint8_t)below(narrow ? 64 : 256), (uint8_t)(2 + below(2)), below(2)};
+        commands[i] = made;
+    }
+}
+
+static size_t encode(encode_frame *encode, size_t i, uint32_t *frame) {
+    const struct command *c = &commands[i];
+    return encode(c->addr, c->cmd, c->start, c->toggle, RATE, frame, FRAME);
+}
+
+/* both sides write the same */
+static void hold_frames(const struct row *row) {
+    for (size_t i = 0; i < 1000; i++) {
+        uint32_t frames[2][FRAME] = {{0}};
+        size_t count = encode(row->encode[0], i, frames[0]);
+        if (count != encode(row->encode[1], i, frames[1]) || memcmp(frames[0], frames[1], sizeof frames[0])) exit(1);
+    }
+}
+
+/* the counts of many frames */
+static uint64_t encode_frames(const struct row *row, int side, size_t count) {
+    uint32_t frame[FRAME];
+    uint64_t sum = 0;
+    make_commands(row);
+    hold_frames(row);
+    for (size_t i = 0; i < count; i++) sum += encode(row->encode[side], i, frame);
+    return sum;
+}
+
+static uint64_t answer(const struct row *row, int side, const char *kind, size_t count) {
+    uint32_t protocol = (uint32_t)(row - rows) + 1;
+    if (!strcmp(kind, "encode")) return encode_frames(row, side, count);
+    if (!strcmp(kind, "quiet")) return row->polls[side](levels, count, protocol, 1000000 / POLL);
+    if (!strcmp(kind, "noise")) make_noise();
+    else make_frames(row);
+    if (strcmp(kind, "polled")) return row->edges[side](edges, count, RATE);
+    make_levels();
+    return row->polls[side](levels, count, protocol, 1000000 / POLL);
 }
 
 int main(int argc, char **argv) {
     if (argc != 5) return 2;
-    bool ours = !strcmp(argv[1], "ours"), frames = !strcmp(argv[2], "frames");
-    size_t count = strtoul(argv[4], NULL, 10);
-    for (size_t i = 0; i < sizeof rows / sizeof rows[0]; i++) {
-        const struct row *row = &rows[i];
-        if (strcmp(argv[3], row->name)) continue;
-        make_edges(row, frames);
-        uint64_t sum = (ours ? row->ours : row->crates)(edges, count, RATE);
-        printf("%llu\n", (unsigned long long)sum);
-        return 0;
-    }
+    int side = !strcmp(argv[1], "crate");
+    for (size_t i = 0; i < sizeof rows / sizeof rows[0]; i++)
+        if (!strcmp(argv[3], rows[i].name)) {
+            printf("%llu\n", (unsigned long long)answer(&rows[i], side, argv[2], strtoul(argv[4], NULL, 10)));
+            return 0;
+        }
     return 2;
 }

@@ -14,8 +14,11 @@ use Rattle.reports.specs.declared.Fault.the-variants.{Address, Data}
 use Rattle.reports.specs.declared.Report.{Report}
 use Rattle.reports.specs.declared.Report.the-variants as report
 use Rattle.nec.specs.Decoder as nec
+use Rattle.nec.specs.Encoder.{necFrame}
 use Rattle.rc5.specs.Decoder as rc5
+use Rattle.rc5.specs.Encoder.{rc5Frame}
 use Rattle.rc6.specs.Decoder as rc6
+use Rattle.rc6.specs.Encoder.{rc6Frame}
 use Rattle.sbp.specs.Decoder as sbp
 use Rattle.denon.specs.Decoder as denon
 
@@ -80,3 +83,13 @@ sbpSum rate durations = addedAll 0 (sbp.reportsOf (sbp.newAt rate .decoder) (alt
 
 abbrev pub denonSum : ℕ → List ℕ → ℕ
 denonSum rate durations = addedAll 0 (denon.reportsOf (denon.newAt rate .decoder) (alternating true durations))
+
+-- the frames of the commands that the encoders are handed
+abbrev pub necFrameOf : ℕ → ℕ → ℕ → Bool → ℕ → List ℕ
+necFrameOf addr cmd start toggle rate = necFrame (record { addr = addr; cmd = cmd; repeat = toggle }) rate
+
+abbrev pub rc5FrameOf : ℕ → ℕ → ℕ → Bool → ℕ → List ℕ
+rc5FrameOf addr cmd start toggle rate = rc5Frame (record { addr = addr; cmd = cmd; start = start; toggle = toggle }) rate
+
+abbrev pub rc6FrameOf : ℕ → ℕ → ℕ → Bool → ℕ → List ℕ
+rc6FrameOf addr cmd start toggle rate = rc6Frame (record { addr = addr; cmd = cmd; toggle = toggle }) rate

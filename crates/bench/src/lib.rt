@@ -1,11 +1,13 @@
 // What bench/ measures: edges through each decoder's event_total, from a fresh decoder on, the first edge rising.
 // The result is one number that every report enters. Each event_total has one caller here, so the compiler can put it into the loop.
+// And a frame of each encoder.
 use commands::Command;
 use commands::nec::NecCommand;
 use commands::rc5::Rc5Command;
 use commands::rc6::Rc6Command;
 use commands::sbp::SbpCommand;
 use denon::decoder::DenonDecoder;
+use frames::Encoded;
 use nec::decoder::NecDecoder;
 use rc5::decoder::Rc5Decoder;
 use rc6::decoder::Rc6Decoder;
@@ -15,6 +17,8 @@ use sbp::decoder::SbpDecoder;
 ghost use mathlib.Core.Path.{_≡_};
 ghost use Prim.Native.Nat.{_≤_};
 ghost use Rattle.bench.specs.Bench.{flagCode, necCode, rc5Code, rc6Code, sbpCode, commandCode, faultCode, added, necSum, rc5Sum, rc6Sum, sbpSum, denonSum};
+ghost use Rattle.frames.specs.Frames.{encodedOf, encodedLength, leftOf};
+ghost use Rattle.bench.specs.Bench.{necFrameOf, rc5FrameOf, rc6FrameOf};
 
 // Above the numbers of a command.
 fn flag_code(flag: bool) -> u64
@@ -69,7 +73,7 @@ fn fault_code(fault: Fault) -> u64
 }
 
 // Nothing adds nothing: most edges report it, and the sum then costs no instruction.
-fn add(sum: u64, report: Report) -> u64
+pub fn add(sum: u64, report: Report) -> u64
     ensures { λ r. ⌜ r ≡ added sum report ⌝ }
 {
     match report {
@@ -178,4 +182,71 @@ pub extern "C" fn bench_denon(durations: &[u32], rate: u32) -> u64
         at += 1;
     }
     sum
+}
+
+fn encoded_length(encoded: Encoded) -> usize
+    ensures { λ r. ⌜ r ≡ encodedLength encoded ⌝ }
+{
+    match encoded {
+        Encoded::Wrote(count) => count,
+        Encoded::Refused(_) => 0,
+        Encoded::Short(needed) => needed,
+    }
+}
+
+#[no_mangle]
+pub extern "C" fn bench_encode_nec(
+    addr: u8,
+    cmd: u8,
+    start: u8,
+    toggle: bool,
+    rate: u32,
+    frame: &mut [u32],
+) -> usize
+    ensures needs { λ r. ⌜ r ≡ encodedLength (encodedOf rate (now (frame .entry)) (necFrameOf addr cmd start toggle rate)) ⌝ }
+    ensures left { λ _. ⌜ now (frame .exit) ≡ leftOf rate (now (frame .entry)) (necFrameOf addr cmd start toggle rate) ⌝ }
+{
+    let command = NecCommand {
+        addr,
+        cmd,
+        repeat: toggle,
+    };
+    encoded_length(nec::encoder::encode(command, rate, frame))
+}
+
+#[no_mangle]
+pub extern "C" fn bench_encode_rc5(
+    addr: u8,
+    cmd: u8,
+    start: u8,
+    toggle: bool,
+    rate: u32,
+    frame: &mut [u32],
+) -> usize
+    ensures needs { λ r. ⌜ r ≡ encodedLength (encodedOf rate (now (frame .entry)) (rc5FrameOf addr cmd start toggle rate)) ⌝ }
+    ensures left { λ _. ⌜ now (frame .exit) ≡ leftOf rate (now (frame .entry)) (rc5FrameOf addr cmd start toggle rate) ⌝ }
+{
+    let command = Rc5Command {
+        addr,
+        cmd,
+        start,
+        toggle,
+    };
+    encoded_length(rc5::encoder::encode(command, rate, frame))
+}
+
+#[no_mangle]
+pub extern "C" fn bench_encode_rc6(
+    addr: u8,
+    cmd: u8,
+    start: u8,
+    toggle: bool,
+    rate: u32,
+    frame: &mut [u32],
+) -> usize
+    ensures needs { λ r. ⌜ r ≡ encodedLength (encodedOf rate (now (frame .entry)) (rc6FrameOf addr cmd start toggle rate)) ⌝ }
+    ensures left { λ _. ⌜ now (frame .exit) ≡ leftOf rate (now (frame .entry)) (rc6FrameOf addr cmd start toggle rate) ⌝ }
+{
+    let command = Rc6Command { addr, cmd, toggle };
+    encoded_length(rc6::encoder::encode(command, rate, frame))
 }
