@@ -1,14 +1,16 @@
 /* The driver of bench/run: makes edges, commands or levels and hands them to one side.
  *   main SIDE KIND PROTOCOL COUNT
- * SIDE is ours or crate; KIND is frames, noise, encode, quiet or polled; COUNT is how many of them.
- *   main SIDE record PROTOCOL 0, main SIDE stack PROTOCOL COUNT
- * Prints the number that the reports come to; a count of bytes for record and stack. Both sides get the same input, at 1 MHz, the first edge
- * rising; polls are at 40 kHz. All input is made whatever the COUNT, so that between two COUNTs only the work on it differs. */
+ * SIDE is ours or crate. KIND is frames or noise: edges, at 1 MHz, the first one rising; encode: commands; quiet or polled: levels, at 40 kHz, of which
+ * none changes or which are those of the frames. COUNT is how many of them are handed over; prints the number that the reports, or the lengths of the
+ * encoded frames, come to. Both sides get the same. All is made whatever the COUNT, so that between two COUNTs only the work differs.
+ *   main SIDE KIND PROTOCOL stack
+ * Prints how many bytes of stack the call takes. */
 #include <stdbool.h>
 #include <stdint.h>
 #include <stdio.h>
 #include <stdlib.h>
 #include <string.h>
+#include <ucontext.h>
 
 #define ROOM 65536
 #define RATE 1000000
@@ -162,29 +164,70 @@ static void hold_frames(const struct row *row) {
 static uint64_t encode_frames(const struct row *row, int side, size_t count) {
     uint32_t frame[FRAME];
     uint64_t sum = 0;
-    make_commands(row);
-    hold_frames(row);
     for (size_t i = 0; i < count; i++) sum += encode(row->encode[side], i, frame);
     return sum;
 }
 
-static uint64_t answer(const struct row *row, int side, const char *kind, size_t count) {
+static uint64_t run(const struct row *row, int side, const char *kind, size_t count) {
     uint32_t protocol = (uint32_t)(row - rows) + 1;
     if (!strcmp(kind, "encode")) return encode_frames(row, side, count);
-    if (!strcmp(kind, "quiet")) return row->polls[side](levels, count, protocol, 1000000 / POLL);
-    if (!strcmp(kind, "noise")) make_noise();
+    if (!strcmp(kind, "quiet") || !strcmp(kind, "polled")) return row->polls[side](levels, count, protocol, 1000000 / POLL);
+    return row->edges[side](edges, count, RATE);
+}
+
+/* a call on a stack of its own, painted before it: how many bytes of it were written */
+static uint8_t stack[65536];
+static ucontext_t back;
+static struct {
+    const struct row *row;
+    int side;
+    const char *kind;
+} call;
+
+static void on_stack(void) {
+    if (call.kind) run(call.row, call.side, call.kind, ROOM);
+}
+
+static size_t written(void) {
+    static ucontext_t there;
+    size_t kept = 0;
+    memset(stack, 0xA5, sizeof stack);
+    getcontext(&there);
+    there.uc_stack.ss_sp = stack;
+    there.uc_stack.ss_size = sizeof stack;
+    there.uc_link = &back;
+    makecontext(&there, on_stack, 0);
+    swapcontext(&back, &there);
+    while (kept < sizeof stack && stack[kept] == 0xA5) kept++;
+    return sizeof stack - kept;
+}
+
+static size_t stack_of(const struct row *row, int side, const char *kind) {
+    call.kind = NULL;
+    size_t none = written();
+    call.row = row, call.side = side, call.kind = kind;
+    return written() - none;
+}
+
+static void make(const struct row *row, const char *kind) {
+    if (!strcmp(kind, "quiet")) return;
+    if (!strcmp(kind, "encode")) {
+        make_commands(row);
+        hold_frames(row);
+    } else if (!strcmp(kind, "noise")) make_noise();
     else make_frames(row);
-    if (strcmp(kind, "polled")) return row->edges[side](edges, count, RATE);
-    make_levels();
-    return row->polls[side](levels, count, protocol, 1000000 / POLL);
+    if (!strcmp(kind, "polled")) make_levels();
 }
 
 int main(int argc, char **argv) {
     if (argc != 5) return 2;
     int side = !strcmp(argv[1], "crate");
+    const char *kind = argv[2], *count = argv[4];
     for (size_t i = 0; i < sizeof rows / sizeof rows[0]; i++)
         if (!strcmp(argv[3], rows[i].name)) {
-            printf("%llu\n", (unsigned long long)answer(&rows[i], side, argv[2], strtoul(argv[4], NULL, 10)));
+            make(&rows[i], kind);
+            uint64_t answer = strcmp(count, "stack") ? run(&rows[i], side, kind, strtoul(count, NULL, 10)) : stack_of(&rows[i], side, kind);
+            printf("%llu\n", (unsigned long long)answer);
             return 0;
         }
     return 2;
