@@ -162,7 +162,7 @@ static void hold_frames(const struct row *row) {
 
 /* the counts of many frames */
 static uint64_t encode_frames(const struct row *row, int side, size_t count) {
-    uint32_t frame[FRAME];
+    static uint32_t frame[FRAME];
     uint64_t sum = 0;
     for (size_t i = 0; i < count; i++) sum += encode(row->encode[side], i, frame);
     return sum;
