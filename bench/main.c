@@ -1,10 +1,12 @@
 /* The driver of bench/run: makes edges, commands or levels and hands them to one side.
  *   main SIDE KIND PROTOCOL COUNT
- * SIDE is ours or crate. KIND is frames or noise: edges, at 1 MHz, the first one rising; encode: commands; quiet or polled: levels, at 40 kHz, of which
- * none changes or which are those of the frames. COUNT is how many of them are handed over; prints the number that the reports, or the lengths of the
+ * SIDE is ours or crate. KIND is frames or noise: edges, at 1 MHz, the first one rising; encode: commands; quiet, changing or polled: levels, at 40 kHz, that
+ * never change, change at each poll, or are those of the frames. COUNT is how many of them are handed over; prints the number that the reports, or the lengths of the
  * encoded frames, come to. Both sides get the same. All is made whatever the COUNT, so that between two COUNTs only the work differs.
  *   main SIDE KIND PROTOCOL stack
- * Prints how many bytes of stack the call takes. */
+ * Prints how many bytes of stack the call takes.
+ *   main crate record PROTOCOL 0, main crate polledrecord PROTOCOL 0
+ * Print how many bytes the crate's decoder and its polled receiver take. */
 #include <stdbool.h>
 #include <stdint.h>
 #include <stdio.h>
@@ -108,11 +110,12 @@ struct row {
     const char *name;
     run_edges *edges[2];
     run_polls *polls[2];
+    const size_t *record, *polled_record; /* the crate's */
     encode_frame *encode[2];
     void (*frame)(void);
 };
 
-#define RUNS(name) #name, {bench_##name, crate_##name}, {bench_polls, crate_polls_##name}
+#define RUNS(name) #name, {bench_##name, crate_##name}, {bench_polls, crate_polls_##name}, &crate_record_##name, &crate_polled_record_##name
 
 static const struct row rows[] = {
     {RUNS(nec), {bench_encode_nec, crate_encode_nec}, nec_frame},
@@ -136,6 +139,11 @@ static void make_levels(void) {
         now += edges[i];
         while (polled < ROOM && polled * POLL < now) levels[polled++] = i % 2;
     }
+}
+
+/* a change at each poll */
+static void make_changes(void) {
+    for (size_t i = 0; i < ROOM; i++) levels[i] = !(i % 2);
 }
 
 static void make_commands(const struct row *row) {
@@ -170,8 +178,10 @@ static uint64_t encode_frames(const struct row *row, int side, size_t count) {
 
 static uint64_t run(const struct row *row, int side, const char *kind, size_t count) {
     uint32_t protocol = (uint32_t)(row - rows) + 1;
+    if (!strcmp(kind, "record")) return *row->record;
+    if (!strcmp(kind, "polledrecord")) return *row->polled_record;
     if (!strcmp(kind, "encode")) return encode_frames(row, side, count);
-    if (!strcmp(kind, "quiet") || !strcmp(kind, "polled")) return row->polls[side](levels, count, protocol, 1000000 / POLL);
+    if (!strcmp(kind, "quiet") || !strcmp(kind, "changing") || !strcmp(kind, "polled")) return row->polls[side](levels, count, protocol, 1000000 / POLL);
     return row->edges[side](edges, count, RATE);
 }
 
@@ -211,11 +221,12 @@ static size_t stack_of(const struct row *row, int side, const char *kind) {
 
 static void make(const struct row *row, const char *kind) {
     if (!strcmp(kind, "quiet")) return;
-    if (!strcmp(kind, "encode")) {
+    if (!strcmp(kind, "changing")) make_changes();
+    else if (!strcmp(kind, "noise")) make_noise();
+    else if (!strcmp(kind, "encode")) {
         make_commands(row);
         hold_frames(row);
-    } else if (!strcmp(kind, "noise")) make_noise();
-    else make_frames(row);
+    } else make_frames(row);
     if (!strcmp(kind, "polled")) make_levels();
 }
 
