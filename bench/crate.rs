@@ -1,0 +1,166 @@
+//! The crate's side: the same edges through its decoders' event_total, and the same number from its reports.
+//! bench/run puts this file among the crate's own, so that all of it is one compilation. Each event_total has one caller: polls are a compilation
+//! of their own.
+
+use crate::protocol::denon::DenonCommand;
+use crate::protocol::nec::NecCommand;
+use crate::protocol::rc5::Rc5Command;
+use crate::protocol::rc6::Rc6Command;
+use crate::protocol::sbp::SbpCommand;
+use crate::protocol::{Denon, Nec, Rc5, Rc6, Sbp};
+use crate::receiver::{DecoderFactory, DecodingError, PeriodicPoll, ProtocolDecoder};
+use crate::sender::ProtocolEncoder;
+
+#[panic_handler]
+fn panic(_: &core::panic::PanicInfo) -> ! {
+    loop {}
+}
+
+/// Rust's core library names it; nothing unwinds.
+#[no_mangle]
+pub extern "C" fn rust_eh_personality() {}
+
+/// As our command's code.
+trait Code {
+    fn code(self) -> u64;
+}
+
+fn flag_code(flag: bool) -> u64 {
+    if flag {
+        16777216
+    } else {
+        0
+    }
+}
+
+impl Code for NecCommand {
+    fn code(self) -> u64 {
+        flag_code(self.repeat) + self.addr as u64 + self.cmd as u64 * 256
+    }
+}
+
+impl Code for Rc5Command {
+    fn code(self) -> u64 {
+        flag_code(self.toggle) + self.addr as u64 + self.cmd as u64 * 256 + self.start as u64 * 65536
+    }
+}
+
+impl Code for Rc6Command {
+    fn code(self) -> u64 {
+        flag_code(self.toggle) + self.addr as u64 + self.cmd as u64 * 256
+    }
+}
+
+impl Code for SbpCommand {
+    fn code(self) -> u64 {
+        flag_code(self.valid) + self.address as u64 + self.command as u64 * 65536
+    }
+}
+
+impl Code for DenonCommand {
+    fn code(self) -> u64 {
+        self.bits
+    }
+}
+
+fn add<C: Code>(sum: u64, report: Result<Option<C>, DecodingError>) -> u64 {
+    match report {
+        Ok(None) => sum,
+        Ok(Some(command)) => sum.wrapping_add(command.code()),
+        Err(DecodingError::Address) => sum.wrapping_add(1099511627776),
+        Err(_) => sum.wrapping_add(4294967296),
+    }
+}
+
+#[cfg(not(polls))]
+fn run<P: DecoderFactory<u32>>(durations: &[u32], rate: u32) -> u64
+where
+    P::Cmd: Code,
+{
+    let mut decoder = P::decoder(rate);
+    let mut sum: u64 = 0;
+    let mut rising = true;
+    for &duration in durations {
+        sum = add(sum, decoder.event_total(rising, duration));
+        rising = !rising;
+    }
+    sum
+}
+
+#[cfg(polls)]
+fn polls<P: DecoderFactory<u32>>(levels: &[u8], rate: u32) -> u64
+where
+    P::Cmd: Code,
+{
+    let mut receiver = PeriodicPoll::<P>::new(rate);
+    let mut sum: u64 = 0;
+    for &level in levels {
+        sum = add(sum, receiver.poll(level == 1));
+    }
+    sum
+}
+
+#[cfg(not(polls))]
+macro_rules! exported {
+    ($($protocol:ty, $run:ident $record:ident;)*) => {
+        $(#[no_mangle]
+        pub unsafe extern "C" fn $run(durations: *const u32, count: usize, rate: u32) -> u64 {
+            run::<$protocol>(core::slice::from_raw_parts(durations, count), rate)
+        }
+
+        #[no_mangle]
+        pub static $record: usize = core::mem::size_of::<<$protocol as DecoderFactory<u32>>::Decoder>();)*
+    };
+}
+
+#[cfg(not(polls))]
+exported! {
+    Nec, crate_nec crate_record_nec;
+    Rc5, crate_rc5 crate_record_rc5;
+    Rc6, crate_rc6 crate_record_rc6;
+    Sbp, crate_sbp crate_record_sbp;
+    Denon, crate_denon crate_record_denon;
+}
+
+#[cfg(polls)]
+macro_rules! exported {
+    ($($protocol:ty, $polls:ident $record:ident;)*) => {
+        $(#[no_mangle]
+        pub unsafe extern "C" fn $polls(levels: *const u8, count: usize, _protocol: u32, rate: u32) -> u64 {
+            polls::<$protocol>(core::slice::from_raw_parts(levels, count), rate)
+        }
+
+        #[no_mangle]
+        pub static $record: usize = core::mem::size_of::<PeriodicPoll<$protocol>>();)*
+    };
+}
+
+#[cfg(polls)]
+exported! {
+    Nec, crate_polls_nec crate_polled_record_nec;
+    Rc5, crate_polls_rc5 crate_polled_record_rc5;
+    Rc6, crate_polls_rc6 crate_polled_record_rc6;
+    Sbp, crate_polls_sbp crate_polled_record_sbp;
+    Denon, crate_polls_denon crate_polled_record_denon;
+}
+
+const RATE: u32 = 1_000_000;
+
+/// The crate's encoders have their rate as a const parameter.
+#[cfg(not(polls))]
+macro_rules! encoders {
+    ($($name:ident $protocol:ty, $command:expr;)*) => {
+        $(#[no_mangle]
+        pub unsafe extern "C" fn $name(addr: u8, cmd: u8, start: u8, toggle: bool, _rate: u32, frame: *mut u32, room: usize) -> usize {
+            let command = $command(addr, cmd, start, toggle);
+            <$protocol as ProtocolEncoder<RATE>>::encode(&command, core::slice::from_raw_parts_mut(frame, room))
+        })*
+    };
+}
+
+#[cfg(not(polls))]
+encoders! {
+    crate_encode_nec Nec, |addr, cmd, _, _| NecCommand { addr, cmd, repeat: false };
+    crate_encode_rc5 Rc5, |addr, cmd, start, toggle| Rc5Command { addr, cmd, start, toggle };
+    crate_encode_rc6 Rc6, |addr, cmd, _, toggle| Rc6Command { addr, cmd, toggle };
+}

@@ -1,0 +1,245 @@
+/* The driver of bench/run: makes edges, commands or levels and hands them to one side.
+ *   main SIDE KIND PROTOCOL COUNT
+ * SIDE is ours or crate. KIND is frames or noise: edges, at 1 MHz, the first one rising; encode: commands; quiet, changing or polled: levels, at 40 kHz, that
+ * never change, change at each poll, or are those of the frames. COUNT is how many of them are handed over; prints the number that the reports, or the lengths of the
+ * encoded frames, come to. Both sides get the same. All is made whatever the COUNT, so that between two COUNTs only the work differs.
+ *   main SIDE KIND PROTOCOL stack
+ * Prints how many bytes of stack the call takes.
+ *   main crate record PROTOCOL 0, main crate polledrecord PROTOCOL 0
+ * Print how many bytes the crate's decoder and its polled receiver take. */
+#include <stdbool.h>
+#include <stdint.h>
+#include <stdio.h>
+#include <stdlib.h>
+#include <string.h>
+#include <ucontext.h>
+
+#define ROOM 65536
+#define RATE 1000000
+#define POLL 25 /* ticks between polls */
+#define FRAME 67
+
+typedef uint64_t run_edges(const uint32_t *durations, size_t count, uint32_t rate);
+
+typedef uint64_t run_polls(const uint8_t *levels, size_t count, uint32_t protocol, uint32_t rate);
+typedef size_t encode_frame(uint8_t addr, uint8_t cmd, uint8_t start, bool toggle, uint32_t rate, uint32_t *frame, size_t room);
+
+run_polls bench_polls;
+#define SIDES(name) \
+    run_edges bench_##name, crate_##name; \
+    run_polls crate_polls_##name; \
+    encode_frame bench_encode_##name, crate_encode_##name; \
+    extern const size_t crate_record_##name, crate_polled_record_##name;
+SIDES(nec) SIDES(rc5) SIDES(rc6) SIDES(sbp) SIDES(denon)
+
+static uint32_t edges[ROOM + 256];
+static size_t made;
+static uint8_t levels[ROOM];
+static struct command {
+    uint8_t addr, cmd, start;
+    bool toggle;
+} commands[ROOM];
+
+/* splitmix64, from a fixed seed */
+static uint32_t below(uint32_t bound) {
+    static uint64_t state = 20260101;
+    uint64_t x = state += 0x9E3779B97F4A7C15;
+    x = (x ^ x >> 30) * 0xBF58476D1CE4E5B9;
+    x = (x ^ x >> 27) * 0x94D049BB133111EB;
+    return (uint32_t)((x ^ x >> 31) % bound);
+}
+
+/* one more duration, wrong by at most so many ticks */
+static void edge(uint32_t duration, uint32_t wrong) {
+    edges[made++] = duration + below(2 * wrong + 1) - wrong;
+}
+
+/* a pulse is a fall and the rise after it */
+static void pulse(uint32_t fall, uint32_t rise, uint32_t wrong) {
+    edge(fall, wrong);
+    edge(rise, wrong);
+}
+
+/* the silence before a frame: its first edge is a rising one */
+static void silence(void) {
+    if (made % 2) edge(560, 0);
+    edge(40000, 0);
+}
+
+/* an encoded frame: its first duration is the silence */
+static void sent(const uint32_t *frame, size_t count, uint32_t wrong) {
+    for (size_t i = 1; i < count; i++) edge(frame[i], wrong);
+}
+
+static void nec_frame(void) {
+    uint32_t frame[FRAME];
+    sent(frame, crate_encode_nec(below(256), below(256), 0, 0, RATE, frame, FRAME), 28);
+}
+
+static void rc5_frame(void) {
+    uint32_t frame[FRAME];
+    sent(frame, crate_encode_rc5(below(32), below(64), 2 + below(2), below(2), RATE, frame, FRAME), 60);
+}
+
+static void rc6_frame(void) {
+    uint32_t frame[FRAME];
+    sent(frame, crate_encode_rc6(below(256), below(256), 0, below(2), RATE, frame, FRAME), 40);
+}
+
+static void sbp_frame(void) {
+    uint32_t addr = below(1 << 16), cmd = below(256);
+    uint32_t bits = below(16) | cmd << 4 | (255 - cmd) << 12;
+    pulse(4500, 4500, 50);
+    for (int i = 0; i < 16; i++) pulse(500, addr >> i & 1 ? 1500 : 500, 40);
+    pulse(500, 4500, 50);
+    for (int i = 0; i < 20; i++) pulse(500, bits >> i & 1 ? 1500 : 500, 40);
+}
+
+static void denon_frame(void) {
+    pulse(3400, 1600, 50);
+    for (int i = 0; i < 48; i++) pulse(480, below(2) ? 1200 : 360, 40);
+}
+
+/* durations of every size that the five protocols know, and beyond */
+static void make_noise(void) {
+    static const uint32_t bounds[] = {1000, 3000, 15000, 100000};
+    while (made < ROOM) edge(below(bounds[below(4)]), 0);
+}
+
+struct row {
+    const char *name;
+    run_edges *edges[2];
+    run_polls *polls[2];
+    const size_t *record, *polled_record; /* the crate's */
+    encode_frame *encode[2];
+    void (*frame)(void);
+};
+
+#define RUNS(name) #name, {bench_##name, crate_##name}, {bench_polls, crate_polls_##name}, &crate_record_##name, &crate_polled_record_##name
+
+static const struct row rows[] = {
+    {RUNS(nec), {bench_encode_nec, crate_encode_nec}, nec_frame},
+    {RUNS(rc5), {bench_encode_rc5, crate_encode_rc5}, rc5_frame},
+    {RUNS(rc6), {bench_encode_rc6, crate_encode_rc6}, rc6_frame},
+    {RUNS(sbp), {0}, sbp_frame},
+    {RUNS(denon), {0}, denon_frame},
+};
+
+static void make_frames(const struct row *row) {
+    while (made < ROOM) {
+        silence();
+        row->frame();
+    }
+}
+
+/* the level before each edge, poll by poll; the first edge is a rising one */
+static void make_levels(void) {
+    uint64_t now = 0, polled = 0;
+    for (size_t i = 0; polled < ROOM; i++) {
+        now += edges[i];
+        while (polled < ROOM && polled * POLL < now) levels[polled++] = i % 2;
+    }
+}
+
+/* a change at each poll */
+static void make_changes(void) {
+    for (size_t i = 0; i < ROOM; i++) levels[i] = !(i % 2);
+}
+
+static void make_commands(const struct row *row) {
+    bool narrow = row->encode[0] == bench_encode_rc5;
+    for (size_t i = 0; i < ROOM; i++) {
+        struct command made = {(uint8_t)below(narrow ? 32 : 256), (uint8_t)below(narrow ? 64 : 256), (uint8_t)(2 + below(2)), below(2)};
+        commands[i] = made;
+    }
+}
+
+static size_t encode(encode_frame *encode, size_t i, uint32_t *frame) {
+    const struct command *c = &commands[i];
+    return encode(c->addr, c->cmd, c->start, c->toggle, RATE, frame, FRAME);
+}
+
+/* both sides write the same */
+static void hold_frames(const struct row *row) {
+    for (size_t i = 0; i < 1000; i++) {
+        uint32_t frames[2][FRAME] = {{0}};
+        size_t count = encode(row->encode[0], i, frames[0]);
+        if (count != encode(row->encode[1], i, frames[1]) || memcmp(frames[0], frames[1], sizeof frames[0])) exit(1);
+    }
+}
+
+/* the counts of many frames */
+static uint64_t encode_frames(const struct row *row, int side, size_t count) {
+    static uint32_t frame[FRAME];
+    uint64_t sum = 0;
+    for (size_t i = 0; i < count; i++) sum += encode(row->encode[side], i, frame);
+    return sum;
+}
+
+static uint64_t run(const struct row *row, int side, const char *kind, size_t count) {
+    uint32_t protocol = (uint32_t)(row - rows) + 1;
+    if (!strcmp(kind, "record")) return *row->record;
+    if (!strcmp(kind, "polledrecord")) return *row->polled_record;
+    if (!strcmp(kind, "encode")) return encode_frames(row, side, count);
+    if (!strcmp(kind, "quiet") || !strcmp(kind, "changing") || !strcmp(kind, "polled")) return row->polls[side](levels, count, protocol, 1000000 / POLL);
+    return row->edges[side](edges, count, RATE);
+}
+
+/* a call on a stack of its own, painted before it: how many bytes of it were written */
+static uint8_t stack[65536];
+static ucontext_t back;
+static struct {
+    const struct row *row;
+    int side;
+    const char *kind;
+} call;
+
+static void on_stack(void) {
+    if (call.kind) run(call.row, call.side, call.kind, ROOM);
+}
+
+static size_t written(void) {
+    static ucontext_t there;
+    size_t kept = 0;
+    memset(stack, 0xA5, sizeof stack);
+    getcontext(&there);
+    there.uc_stack.ss_sp = stack;
+    there.uc_stack.ss_size = sizeof stack;
+    there.uc_link = &back;
+    makecontext(&there, on_stack, 0);
+    swapcontext(&back, &there);
+    while (kept < sizeof stack && stack[kept] == 0xA5) kept++;
+    return sizeof stack - kept;
+}
+
+static size_t stack_of(const struct row *row, int side, const char *kind) {
+    call.kind = NULL;
+    size_t none = written();
+    call.row = row, call.side = side, call.kind = kind;
+    return written() - none;
+}
+
+static void make(const struct row *row, const char *kind) {
+    if (!strcmp(kind, "quiet")) return;
+    if (!strcmp(kind, "changing")) make_changes();
+    else if (!strcmp(kind, "noise")) make_noise();
+    else if (!strcmp(kind, "encode")) {
+        make_commands(row);
+        hold_frames(row);
+    } else make_frames(row);
+    if (!strcmp(kind, "polled")) make_levels();
+}
+
+int main(int argc, char **argv) {
+    if (argc != 5) return 2;
+    int side = !strcmp(argv[1], "crate");
+    const char *kind = argv[2], *count = argv[4];
+    for (size_t i = 0; i < sizeof rows / sizeof rows[0]; i++)
+        if (!strcmp(argv[3], rows[i].name)) {
+            make(&rows[i], kind);
+            uint64_t answer = strcmp(count, "stack") ? run(&rows[i], side, kind, strtoul(count, NULL, 10)) : stack_of(&rows[i], side, kind);
+            printf("%llu\n", (unsigned long long)answer);
+            return 0;
+        }
+    return 2;
+}

@@ -1,0 +1,57 @@
+-- `bench::bench_rc6` meets its contract. The loop's invariant: what the edges from here on add is what all of them add. Assumes nothing.
+use Prim.Native.Nat.{_-_}
+use mathlib.Core.Path.{_≡_, refl, sym, ap, _∙_}
+use mathlib.Core.Bool.{true}
+use borrow.Author.Needs.{needs}
+use lib.ListN.{length, drop}
+use Rattle.rc6.specs.Decoder.{edgeReport, edgeAfter}
+use Rattle.rc6.specs.declared.decoder.Rc6Total.{Rc6Total}
+use Rattle.rc6.specs.declared.decoder.Rc6Made.{Rc6Made}
+use Rattle.bench.proofs.Summing.{summed, summed-next, summed-end}
+use Rattle.bench.proofs.bench_rc6.Statement.{statement}
+use Rattle.bench.proofs.bench_rc6.Tie as tie
+
+abbrev Inv-loop : tie.InvT-loop
+Inv-loop durations rate decoder₀ sum₀ rising₀ at₀ decoder sum rising at =
+    summed edgeReport edgeAfter sum decoder rising (drop at durations) ≡ summed edgeReport edgeAfter 0 decoder₀ true durations
+
+abbrev μ-loop : tie.MeasureT-loop
+μ-loop durations rate decoder₀ sum₀ rising₀ at₀ decoder sum rising at = length durations - at
+
+loop-again : tie.Need-loop-again Inv-loop μ-loop
+loop-again c =
+    let adds = c .before .add in
+    let total = c .before .before .event-total in
+    let inside = c .before .before .before .before in
+    let loop = inside .before .loop in
+    let start = inside .before .before .before .before .before .args in
+    summed-next edgeReport edgeAfter (start .durations .now) (loop .at) (inside .loop-test .taken) (loop .sum) (adds .result) (loop .decoder)
+    (total .result .decoder) (loop .rising) (total .result .report) (ap (λ (t : Rc6Total). t .report) (total .ensures))
+    (ap (λ (t : Rc6Total). t .decoder) (total .ensures)) (adds .ensures)
+    ∙ loop .inv
+
+returns : tie.Need-returns Inv-loop μ-loop
+returns c =
+    let loop = c .before .loop in
+    let made = c .before .before .before .new in
+    let start = c .before .before .before .before .before .args in
+    sym (summed-end edgeReport edgeAfter (start .durations .now) (loop .at) (c .loop-test .left) (loop .sum) (loop .decoder) (loop .rising))
+    ∙ loop .inv
+    ∙ ap (λ (m : Rc6Made). summed edgeReport edgeAfter 0 (m .decoder) true (start .durations .now)) (made .ensures)
+
+pub bench-rc6-spec : {M : Type 1} → statement M
+bench-rc6-spec =
+    tie.close
+    (tie.spec
+    Inv-loop
+    μ-loop
+    (λ c κs. search needs)
+    (λ c. refl)
+    (λ c. search needs)
+    (λ c. search needs)
+    (λ c κs. search needs)
+    (λ c κs. search needs)
+    (λ c. search needs)
+    (λ c. search needs)
+    loop-again
+    returns)

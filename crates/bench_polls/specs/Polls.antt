@@ -1,0 +1,15 @@
+-- What bench/ measures: the number that the reports of a run of polls come to.
+use Prim.Native.Nat.{ℕ}
+use mathlib.Core.Bool.{Bool}
+use mathlib.Core.List.{List, [], _∷_}
+use lib.Dec.{eqb}
+use Rattle.polled.specs.Polled.{polledAt, pollReports}
+use Rattle.bench.specs.Bench.{addedAll}
+
+-- 1 is high
+unfoldable pub levelsOf : List ℕ → List Bool
+levelsOf [] = []
+levelsOf (level ∷ levels) = eqb level 1 ∷ levelsOf levels
+
+abbrev pub pollsSum : ℕ → ℕ → List ℕ → ℕ
+pollsSum protocol rate levels = addedAll 0 (pollReports (polledAt protocol rate .receiver) (levelsOf levels))
