@@ -51,10 +51,13 @@ none = 8
 abbrev pub ticksOf : ℕ → ℕ
 ticksOf place = place + 1
 
--- "No span resets at once"; else the "clock counts ticks on 64 bits and goes round at the end"
+-- the "clock counts ticks on 64 bits and goes round at the end"
+abbrev pub counted : Rc5Memory → ℕ → Rc5Memory
+counted m ticks = memoryOf (m .state) (m .bits) ((m .clock + ticks) % 2 ^ 64)
+
+-- "No span resets at once"
 abbrev pub ticked : Rc5Memory → ℕ → Rc5Memory
-ticked m place =
-    cond (eqb place none) (resetOf m) (memoryOf (m .state) (m .bits) ((m .clock + ticksOf place) % 2 ^ 64))
+ticked m place = cond (eqb place none) (resetOf m) (counted m (ticksOf place))
 
 -- "From Idle a rising edge zeroes the clock and sets bit 13; a falling edge stays"
 abbrev pub fromIdle : ℕ → ℕ → Bool → Rc5Memory
@@ -85,8 +88,11 @@ abbrev pub readFrom : Rc5Memory → Bool → Rc5Memory
 readFrom m rising = nextOf (m .state) (m .bits) (m .clock) rising
 
 -- "No span resets at once, then the same edge is read from Idle"
+abbrev pub readAt : Rc5Memory → Bool → ℕ → Rc5Memory
+readAt m rising place = readFrom (ticked m place) rising
+
 unfoldable pub stepIn : List ℕ → List ℕ → Rc5Memory → Bool → ℕ → Rc5Memory
-stepIn low high m rising duration = readFrom (ticked m (placeOf (lookupIn low high duration))) rising
+stepIn low high m rising duration = readAt m rising (placeOf (lookupIn low high duration))
 
 -- an error is its own status
 abbrev pub statusOf : Rc5State → Status
@@ -99,10 +105,17 @@ statusOf (Error fault) = status.Error fault
 abbrev pub stood : Rc5Memory → Rc5EventIn
 stood m = record { status = statusOf (m .state); memory = m }
 
--- `event`: refusal 4 "is tested at each edge", and "the state as given" comes back
+-- refusal 4: "the state as given" comes back
+abbrev pub refused : Rc5Memory → Rc5EventIn
+refused m = record { status = status.Refused 4; memory = m }
+
+-- it "is tested at each edge"
+abbrev pub answered : Rc5Memory → Rc5Memory → Rc5EventIn
+answered m after = cond (pastEnd (m .state)) (refused m) (stood after)
+
+-- `event`
 unfoldable pub eventIn : List ℕ → List ℕ → Rc5Memory → Bool → ℕ → Rc5EventIn
-eventIn low high m rising duration =
-    cond (pastEnd (m .state)) (record { status = status.Refused 4; memory = m }) (stood (stepIn low high m rising duration))
+eventIn low high m rising duration = answered m (stepIn low high m rising duration)
 
 -- "`command` answers in every state"
 abbrev pub commandOf : Rc5Memory → Report

@@ -7,9 +7,8 @@ use reports::Status;
 use spans::Answer;
 use spans::Spans;
 ghost use mathlib.Core.Path.{_≡_};
-ghost use mathlib.Core.Bool.{false};
 ghost use Prim.Native.Nat.{_≤_};
-ghost use Rattle.rc5.specs.Decoder.{pastEnd, fromIdle, afterBit, gathered, fromData, nextOf, statusOf, fresh, stepIn, eventIn, commandOf, resetOf, stood, ruled, totalIn, newAt, eventOf, commandIn, resetIn, eventTotal};
+ghost use Rattle.rc5.specs.Decoder.{pastEnd, fromIdle, gathered, fromData, counted, readFrom, refused, answered, fresh, eventIn, commandOf, resetOf, stood, totalIn, newAt, eventOf, commandIn, resetIn, eventTotal};
 
 pub enum Rc5State {
     Idle,
@@ -86,16 +85,6 @@ fn from_idle(bits: u16, clock: u64, rising: bool) -> Rc5Memory
     }
 }
 
-fn after_bit(n: u8) -> Rc5State
-    ensures { λ r. ⌜ r ≡ afterBit n ⌝ }
-{
-    if n == 0 {
-        Rc5State::Done
-    } else {
-        Rc5State::Data(n - 1)
-    }
-}
-
 // A rising edge is a 1.
 fn gathered(n: u8, bits: u16, rising: bool) -> u16
     requires { ⌜ n ≤ 12 ⌝ }
@@ -110,10 +99,19 @@ fn from_data(n: u8, bits: u16, clock: u64, rising: bool) -> Rc5Memory
     ensures { λ r. ⌜ r ≡ fromData n bits clock rising ⌝ }
 {
     if clock % 2 == 0 {
-        Rc5Memory {
-            state: after_bit(n),
-            bits: gathered(n, bits, rising),
-            clock,
+        let bits = gathered(n, bits, rising);
+        if n == 0 {
+            Rc5Memory {
+                state: Rc5State::Done,
+                bits,
+                clock,
+            }
+        } else {
+            Rc5Memory {
+                state: Rc5State::Data(n - 1),
+                bits,
+                clock,
+            }
         }
     } else {
         Rc5Memory {
@@ -124,54 +122,82 @@ fn from_data(n: u8, bits: u16, clock: u64, rising: bool) -> Rc5Memory
     }
 }
 
-fn next_of(state: Rc5State, bits: u16, clock: u64, rising: bool) -> Rc5Memory
-    requires { ⌜ pastEnd state ≡ false ⌝ }
-    ensures { λ r. ⌜ r ≡ nextOf state bits clock rising ⌝ }
+// What `event` answers after a step, an arm for each state: one that is handed to another function is moved as one packed number.
+fn stood(m: Rc5Memory) -> Rc5EventIn
+    ensures { λ r. ⌜ r ≡ stood m ⌝ }
 {
+    let state = m.state;
     match state {
-        Rc5State::Idle => from_idle(bits, clock, rising),
-        Rc5State::Data(n) => from_data(n, bits, clock, rising),
-        Rc5State::Done => Rc5Memory {
+        Rc5State::Idle => Rc5EventIn {
+            status: Status::Idle,
+            memory: m,
+        },
+        Rc5State::Data(_) => Rc5EventIn {
+            status: Status::Receiving,
+            memory: m,
+        },
+        Rc5State::Done => Rc5EventIn {
+            status: Status::Done,
+            memory: m,
+        },
+        Rc5State::Error(fault) => Rc5EventIn {
+            status: Status::Error(fault),
+            memory: m,
+        },
+    }
+}
+
+// Refusal 4: all stays as it is.
+fn refused(m: Rc5Memory) -> Rc5EventIn
+    ensures { λ r. ⌜ r ≡ refused m ⌝ }
+{
+    Rc5EventIn {
+        status: Status::Refused(4),
+        memory: m,
+    }
+}
+
+// An edge after so many ticks; the clock goes round at 64 bits. Refusal 4 is tested where the counter is at hand.
+fn next_of(m: Rc5Memory, ticks: u64, rising: bool) -> Rc5EventIn
+    ensures { λ r. ⌜ r ≡ answered m (readFrom (counted m ticks) rising) ⌝ }
+{
+    let bits = m.bits;
+    let clock = std::num::wrapping_add_u64(m.clock, ticks);
+    let state = m.state;
+    match state {
+        Rc5State::Idle => stood(from_idle(bits, clock, rising)),
+        Rc5State::Data(n) => if n <= 12 {
+            stood(from_data(n, bits, clock, rising))
+        } else {
+            refused(m)
+        },
+        Rc5State::Done => stood(Rc5Memory {
             state: Rc5State::Done,
             bits,
             clock,
-        },
-        Rc5State::Error(fault) => Rc5Memory {
+        }),
+        Rc5State::Error(fault) => stood(Rc5Memory {
             state: Rc5State::Error(fault),
             bits,
             clock,
-        },
+        }),
     }
 }
 
-// An edge that is not refused. Ticks are place + 1. Place 8 is no span: it resets at once, and the same edge is read from Idle.
-fn step_in<'a>(
-    low: &'a [u32; 8],
-    high: &'a [u32; 8],
-    m: Rc5Memory,
-    rising: bool,
-    duration: u32,
-) -> Rc5Memory
-    requires { ⌜ pastEnd (m .state) ≡ false ⌝ }
-    ensures { λ r. ⌜ r ≡ stepIn (now (low .entry)) (now (high .entry)) m rising duration ⌝ }
+// No span resets at once, and the same edge is read from Idle.
+fn no_span(m: Rc5Memory, rising: bool) -> Rc5EventIn
+    ensures { λ r. ⌜ r ≡ answered m (readFrom (resetOf m) rising) ⌝ }
 {
-    let place = spans::place_of(spans::lookup_in(low, high, duration as u64));
-    if place == 8 {
-        return next_of(Rc5State::Idle, 0, 0, rising);
-    }
     let state = m.state;
-    let clock = std::num::wrapping_add_u64(m.clock, place as u64 + 1);
-    next_of(state, m.bits, clock, rising)
-}
-
-fn status_of(state: Rc5State) -> Status
-    ensures { λ r. ⌜ r ≡ statusOf state ⌝ }
-{
     match state {
-        Rc5State::Idle => Status::Idle,
-        Rc5State::Data(_) => Status::Receiving,
-        Rc5State::Done => Status::Done,
-        Rc5State::Error(fault) => Status::Error(fault),
+        Rc5State::Idle => stood(from_idle(0, 0, rising)),
+        Rc5State::Data(n) => if 12 < n {
+            refused(m)
+        } else {
+            stood(from_idle(0, 0, rising))
+        },
+        Rc5State::Done => stood(from_idle(0, 0, rising)),
+        Rc5State::Error(_) => stood(from_idle(0, 0, rising)),
     }
 }
 
@@ -186,6 +212,7 @@ pub fn fresh() -> Rc5Memory
     }
 }
 
+// Ticks are place + 1. A call for each place: the compiler then goes on from the place that it finds.
 pub fn event_in<'a>(
     low: &'a [u32; 8],
     high: &'a [u32; 8],
@@ -195,17 +222,17 @@ pub fn event_in<'a>(
 ) -> Rc5EventIn
     ensures { λ r. ⌜ r ≡ eventIn (now (low .entry)) (now (high .entry)) m rising duration ⌝ }
 {
-    let state = m.state;
-    if past_end(state) {
-        return Rc5EventIn {
-            status: Status::Refused(4),
-            memory: m,
-        };
+    match spans::place_of(spans::lookup_in(low, high, duration as u64)) {
+        0 => next_of(m, 1, rising),
+        1 => next_of(m, 2, rising),
+        2 => next_of(m, 3, rising),
+        3 => next_of(m, 4, rising),
+        4 => next_of(m, 5, rising),
+        5 => next_of(m, 6, rising),
+        6 => next_of(m, 7, rising),
+        7 => next_of(m, 8, rising),
+        _ => no_span(m, rising),
     }
-    let memory = step_in(low, high, m, rising, duration);
-    let after = memory.state;
-    let status = status_of(after);
-    Rc5EventIn { status, memory }
 }
 
 // In every state, whatever the bits hold.
@@ -222,25 +249,7 @@ pub fn reset_of(m: Rc5Memory) -> Rc5Memory
     fresh()
 }
 
-// The rule of event_total, after a step.
-fn settle(after: Rc5Memory) -> Rc5TotalIn
-    ensures { λ r. ⌜ r ≡ ruled (stood after) ⌝ }
-{
-    let state = after.state;
-    let status = status_of(state);
-    let report = reports::report_of(status, command_of(after));
-    if reports::resets(status) {
-        let memory = reset_of(after);
-        Rc5TotalIn { report, memory }
-    } else {
-        Rc5TotalIn {
-            report,
-            memory: after,
-        }
-    }
-}
-
-// The rule over event_in, whose refusal is tested here again: past it the state is one that the compiler keeps in registers.
+// The rule of `reports` over event_in, by its status.
 pub fn total_in<'a>(
     low: &'a [u32; 8],
     high: &'a [u32; 8],
@@ -250,14 +259,31 @@ pub fn total_in<'a>(
 ) -> Rc5TotalIn
     ensures { λ r. ⌜ r ≡ totalIn (now (low .entry)) (now (high .entry)) m rising duration ⌝ }
 {
-    let state = m.state;
-    if past_end(state) {
-        return Rc5TotalIn {
-            report: Report::Refused(4),
-            memory: m,
-        };
+    let event = event_in(low, high, m, rising, duration);
+    let after = event.memory;
+    let status = event.status;
+    match status {
+        Status::Idle => Rc5TotalIn {
+            report: Report::Nothing,
+            memory: after,
+        },
+        Status::Receiving => Rc5TotalIn {
+            report: Report::Nothing,
+            memory: after,
+        },
+        Status::Done => Rc5TotalIn {
+            report: command_of(after),
+            memory: reset_of(after),
+        },
+        Status::Error(fault) => Rc5TotalIn {
+            report: Report::Error(fault),
+            memory: reset_of(after),
+        },
+        Status::Refused(number) => Rc5TotalIn {
+            report: Report::Refused(number),
+            memory: after,
+        },
     }
-    settle(step_in(low, high, m, rising, duration))
 }
 
 impl Rc5Decoder {

@@ -64,6 +64,10 @@ ticksOf place = place + 1
 abbrev pub counted : Rc6Memory → ℕ → Rc6Memory
 counted m ticks = memoryOf (m .state) (m .«data») (m .header) (m .toggle) ((m .clock + ticks) % 2 ^ 64)
 
+-- what is gathered then, the state apart
+abbrev pub clocked : Rc6Memory → ℕ → Rc6Memory
+clocked m ticks = inState (counted m ticks) Idle
+
 -- "No span resets at once"
 abbrev pub ticked : Rc6Memory → ℕ → Rc6Memory
 ticked m place = cond (eqb place none) (resetOf m) (counted m (ticksOf place))
@@ -165,10 +169,17 @@ statusOf (Error fault) = status.Error fault
 abbrev pub stood : Rc6Memory → Rc6EventIn
 stood m = record { status = statusOf (m .state); memory = m }
 
--- `event`: refusal 4 "is tested at each edge", and "the state as given" comes back
+-- refusal 4: "the state as given" comes back
+abbrev pub refused : Rc6Memory → Rc6EventIn
+refused m = record { status = status.Refused 4; memory = m }
+
+-- it "is tested at each edge"
+abbrev pub answered : Rc6Memory → Rc6Memory → Rc6EventIn
+answered m after = cond (pastEnd (m .state)) (refused m) (stood after)
+
+-- `event`
 unfoldable pub eventIn : List ℕ → List ℕ → Rc6Memory → Bool → ℕ → Rc6EventIn
-eventIn low high m rising duration =
-    cond (pastEnd (m .state)) (record { status = status.Refused 4; memory = m }) (stood (stepIn low high m rising duration))
+eventIn low high m rising duration = answered m (stepIn low high m rising duration)
 
 -- "`command` answers in every state"
 abbrev pub commandOf : Rc6Memory → Report

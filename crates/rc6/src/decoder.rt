@@ -7,9 +7,9 @@ use reports::Status;
 use spans::Answer;
 use spans::Spans;
 ghost use mathlib.Core.Path.{_≡_};
-ghost use mathlib.Core.Bool.{false};
 ghost use Prim.Native.Nat.{_≤_};
-ghost use Rattle.rc6.specs.Decoder.{pastEnd, isFall, isRise, isOdd, gathered, inState, fromIdle, fromLeading, fromLeadingPause, afterHeader, fromHeaderData, trailed, fromTrailing, afterData, fromData, nextOf, resetOf, counted, stepIn, statusOf, fresh, eventIn, commandOf, stood, ruled, totalIn, newAt, eventOf, commandIn, resetIn, eventTotal};
+ghost use Rattle.rc6.specs.declared.decoder.Rc6State.the-variants.{Idle, HeaderData, Data};
+ghost use Rattle.rc6.specs.Decoder.{pastEnd, isFall, isRise, isOdd, gathered, inState, fromIdle, fromLeading, fromLeadingPause, fromHeaderData, trailed, fromTrailing, fromData, clocked, counted, readFrom, refused, answered, stood, fresh, eventIn, commandOf, resetOf, totalIn, newAt, eventOf, commandIn, resetIn, eventTotal};
 
 pub enum Rc6State {
     Idle,
@@ -104,12 +104,37 @@ fn gathered(n: u32, bits: u16, rising: bool) -> u16
     if rising { bits } else { bits | (1 << n) }
 }
 
-// The memory in another state. Field by field: a copy of the whole would move its padding too, at each edge.
-fn in_state(m: Rc6Memory, state: Rc6State) -> Rc6Memory
-    ensures { λ r. ⌜ r ≡ inState m state ⌝ }
+// The memory in another state, built field by field: a state that is handed over is moved as one packed number, and a copy of the whole
+// memory would move its padding too, at each edge.
+fn to_idle(m: Rc6Memory) -> Rc6Memory
+    ensures { λ r. ⌜ r ≡ inState m Idle ⌝ }
 {
     Rc6Memory {
-        state,
+        state: Rc6State::Idle,
+        data: m.data,
+        header: m.header,
+        toggle: m.toggle,
+        clock: m.clock,
+    }
+}
+
+fn in_header(n: u32, m: Rc6Memory) -> Rc6Memory
+    ensures { λ r. ⌜ r ≡ inState m (HeaderData n) ⌝ }
+{
+    Rc6Memory {
+        state: Rc6State::HeaderData(n),
+        data: m.data,
+        header: m.header,
+        toggle: m.toggle,
+        clock: m.clock,
+    }
+}
+
+fn in_data(n: u32, m: Rc6Memory) -> Rc6Memory
+    ensures { λ r. ⌜ r ≡ inState m (Data n) ⌝ }
+{
+    Rc6Memory {
+        state: Rc6State::Data(n),
         data: m.data,
         header: m.header,
         toggle: m.toggle,
@@ -129,7 +154,7 @@ fn from_idle(m: Rc6Memory, rising: bool) -> Rc6Memory
             clock: 0,
         }
     } else {
-        in_state(m, Rc6State::Idle)
+        to_idle(m)
     }
 }
 
@@ -138,9 +163,15 @@ fn from_leading(m: Rc6Memory, rising: bool, ticks: u64) -> Rc6Memory
     ensures { λ r. ⌜ r ≡ fromLeading m rising ticks ⌝ }
 {
     if is_fall(rising, ticks, 6) {
-        in_state(m, Rc6State::LeadingPause)
+        Rc6Memory {
+            state: Rc6State::LeadingPause,
+            data: m.data,
+            header: m.header,
+            toggle: m.toggle,
+            clock: m.clock,
+        }
     } else {
-        in_state(m, Rc6State::Idle)
+        to_idle(m)
     }
 }
 
@@ -148,19 +179,15 @@ fn from_leading_pause(m: Rc6Memory, rising: bool, ticks: u64) -> Rc6Memory
     ensures { λ r. ⌜ r ≡ fromLeadingPause m rising ticks ⌝ }
 {
     if is_rise(rising, ticks, 2) {
-        in_state(m, Rc6State::HeaderData(3))
+        Rc6Memory {
+            state: Rc6State::HeaderData(3),
+            data: m.data,
+            header: m.header,
+            toggle: m.toggle,
+            clock: m.clock,
+        }
     } else {
-        in_state(m, Rc6State::Idle)
-    }
-}
-
-fn after_header(n: u32) -> Rc6State
-    ensures { λ r. ⌜ r ≡ afterHeader n ⌝ }
-{
-    if n == 0 {
-        Rc6State::Trailing
-    } else {
-        Rc6State::HeaderData(n - 1)
+        to_idle(m)
     }
 }
 
@@ -170,15 +197,26 @@ fn from_header_data(n: u32, m: Rc6Memory, rising: bool) -> Rc6Memory
     ensures { λ r. ⌜ r ≡ fromHeaderData n m rising ⌝ }
 {
     if is_odd(m.clock) {
-        Rc6Memory {
-            state: after_header(n),
-            data: m.data,
-            header: gathered(n, m.header, rising),
-            toggle: m.toggle,
-            clock: m.clock,
+        let header = gathered(n, m.header, rising);
+        if n == 0 {
+            Rc6Memory {
+                state: Rc6State::Trailing,
+                data: m.data,
+                header,
+                toggle: m.toggle,
+                clock: m.clock,
+            }
+        } else {
+            Rc6Memory {
+                state: Rc6State::HeaderData(n - 1),
+                data: m.data,
+                header,
+                toggle: m.toggle,
+                clock: m.clock,
+            }
         }
     } else {
-        in_state(m, Rc6State::HeaderData(n))
+        in_header(n, m)
     }
 }
 
@@ -203,19 +241,15 @@ fn from_trailing(m: Rc6Memory, rising: bool, ticks: u64) -> Rc6Memory
     } else if is_rise(rising, ticks, 2) {
         trailed(m, false)
     } else if is_fall(rising, ticks, 1) {
-        in_state(m, Rc6State::Trailing)
+        Rc6Memory {
+            state: Rc6State::Trailing,
+            data: m.data,
+            header: m.header,
+            toggle: m.toggle,
+            clock: m.clock,
+        }
     } else {
-        in_state(m, Rc6State::Idle)
-    }
-}
-
-fn after_data(n: u32) -> Rc6State
-    ensures { λ r. ⌜ r ≡ afterData n ⌝ }
-{
-    if n == 0 {
-        Rc6State::Done
-    } else {
-        Rc6State::Data(n - 1)
+        to_idle(m)
     }
 }
 
@@ -224,32 +258,128 @@ fn from_data(n: u32, m: Rc6Memory, rising: bool) -> Rc6Memory
     ensures { λ r. ⌜ r ≡ fromData n m rising ⌝ }
 {
     if is_odd(m.clock) {
-        Rc6Memory {
-            state: after_data(n),
-            data: gathered(n, m.data, rising),
-            header: m.header,
-            toggle: m.toggle,
-            clock: m.clock,
+        let data = gathered(n, m.data, rising);
+        if n == 0 {
+            Rc6Memory {
+                state: Rc6State::Done,
+                data,
+                header: m.header,
+                toggle: m.toggle,
+                clock: m.clock,
+            }
+        } else {
+            Rc6Memory {
+                state: Rc6State::Data(n - 1),
+                data,
+                header: m.header,
+                toggle: m.toggle,
+                clock: m.clock,
+            }
         }
     } else {
-        in_state(m, Rc6State::Data(n))
+        in_data(n, m)
     }
 }
 
-// The clock of `m` has the ticks already.
-fn next_of(state: Rc6State, m: Rc6Memory, rising: bool, ticks: u64) -> Rc6Memory
-    requires { ⌜ pastEnd state ≡ false ⌝ }
-    ensures { λ r. ⌜ r ≡ nextOf state m rising ticks ⌝ }
+// What `event` answers after a step, an arm for each state: one that is handed to another function is moved as one packed number.
+fn stood(m: Rc6Memory) -> Rc6EventIn
+    ensures { λ r. ⌜ r ≡ stood m ⌝ }
 {
+    let state = m.state;
     match state {
-        Rc6State::Idle => from_idle(m, rising),
-        Rc6State::Leading => from_leading(m, rising, ticks),
-        Rc6State::LeadingPause => from_leading_pause(m, rising, ticks),
-        Rc6State::HeaderData(n) => from_header_data(n, m, rising),
-        Rc6State::Trailing => from_trailing(m, rising, ticks),
-        Rc6State::Data(n) => from_data(n, m, rising),
-        Rc6State::Done => in_state(m, Rc6State::Done),
-        Rc6State::Error(fault) => in_state(m, Rc6State::Error(fault)),
+        Rc6State::Idle => Rc6EventIn {
+            status: Status::Idle,
+            memory: m,
+        },
+        Rc6State::Leading => Rc6EventIn {
+            status: Status::Receiving,
+            memory: m,
+        },
+        Rc6State::LeadingPause => Rc6EventIn {
+            status: Status::Receiving,
+            memory: m,
+        },
+        Rc6State::HeaderData(_) => Rc6EventIn {
+            status: Status::Receiving,
+            memory: m,
+        },
+        Rc6State::Trailing => Rc6EventIn {
+            status: Status::Receiving,
+            memory: m,
+        },
+        Rc6State::Data(_) => Rc6EventIn {
+            status: Status::Receiving,
+            memory: m,
+        },
+        Rc6State::Done => Rc6EventIn {
+            status: Status::Done,
+            memory: m,
+        },
+        Rc6State::Error(fault) => Rc6EventIn {
+            status: Status::Error(fault),
+            memory: m,
+        },
+    }
+}
+
+// Refusal 4: all stays as it is.
+fn refused(m: Rc6Memory) -> Rc6EventIn
+    ensures { λ r. ⌜ r ≡ refused m ⌝ }
+{
+    Rc6EventIn {
+        status: Status::Refused(4),
+        memory: m,
+    }
+}
+
+// What is gathered, with the ticks counted; the clock goes round at 64 bits. The state is read apart.
+fn clocked(m: Rc6Memory, ticks: u64) -> Rc6Memory
+    ensures { λ r. ⌜ r ≡ clocked m ticks ⌝ }
+{
+    Rc6Memory {
+        state: Rc6State::Idle,
+        data: m.data,
+        header: m.header,
+        toggle: m.toggle,
+        clock: std::num::wrapping_add_u64(m.clock, ticks),
+    }
+}
+
+// An edge after so many ticks. Refusal 4 is tested where the counter is at hand.
+fn next_of(m: Rc6Memory, ticks: u64, rising: bool) -> Rc6EventIn
+    ensures { λ r. ⌜ r ≡ answered m (readFrom (counted m ticks) rising ticks) ⌝ }
+{
+    let counted = clocked(m, ticks);
+    let state = m.state;
+    match state {
+        Rc6State::Idle => stood(from_idle(counted, rising)),
+        Rc6State::Leading => stood(from_leading(counted, rising, ticks)),
+        Rc6State::LeadingPause => stood(from_leading_pause(counted, rising, ticks)),
+        Rc6State::HeaderData(n) => if n <= 3 {
+            stood(from_header_data(n, counted, rising))
+        } else {
+            refused(in_header(n, m))
+        },
+        Rc6State::Trailing => stood(from_trailing(counted, rising, ticks)),
+        Rc6State::Data(n) => if n <= 15 {
+            stood(from_data(n, counted, rising))
+        } else {
+            refused(in_data(n, m))
+        },
+        Rc6State::Done => stood(Rc6Memory {
+            state: Rc6State::Done,
+            data: counted.data,
+            header: counted.header,
+            toggle: counted.toggle,
+            clock: counted.clock,
+        }),
+        Rc6State::Error(fault) => stood(Rc6Memory {
+            state: Rc6State::Error(fault),
+            data: counted.data,
+            header: counted.header,
+            toggle: counted.toggle,
+            clock: counted.clock,
+        }),
     }
 }
 
@@ -266,53 +396,29 @@ pub fn reset_of(m: Rc6Memory) -> Rc6Memory
     }
 }
 
-// The clock goes round at 64 bits.
-fn counted(m: Rc6Memory, ticks: u64) -> Rc6Memory
-    ensures { λ r. ⌜ r ≡ counted m ticks ⌝ }
+// No span resets at once, and the same edge is read from Idle.
+fn no_span(m: Rc6Memory, rising: bool) -> Rc6EventIn
+    ensures { λ r. ⌜ r ≡ answered m (fromIdle (resetOf m) rising) ⌝ }
 {
+    let cleared = reset_of(m);
     let state = m.state;
-    Rc6Memory {
-        state,
-        data: m.data,
-        header: m.header,
-        toggle: m.toggle,
-        clock: std::num::wrapping_add_u64(m.clock, ticks),
-    }
-}
-
-// An edge that is not refused. Ticks are place + 1. Place 8 is no span: it resets at once, and the same edge is read from Idle.
-fn step_in<'a>(
-    low: &'a [u32; 8],
-    high: &'a [u32; 8],
-    m: Rc6Memory,
-    rising: bool,
-    duration: u32,
-) -> Rc6Memory
-    requires { ⌜ pastEnd (m .state) ≡ false ⌝ }
-    ensures { λ r. ⌜ r ≡ stepIn (now (low .entry)) (now (high .entry)) m rising duration ⌝ }
-{
-    let place = spans::place_of(spans::lookup_in(low, high, duration as u64));
-    if place == 8 {
-        from_idle(reset_of(m), rising)
-    } else {
-        let state = m.state;
-        let ticks = place as u64 + 1;
-        next_of(state, counted(m, ticks), rising, ticks)
-    }
-}
-
-fn status_of(state: Rc6State) -> Status
-    ensures { λ r. ⌜ r ≡ statusOf state ⌝ }
-{
     match state {
-        Rc6State::Idle => Status::Idle,
-        Rc6State::Leading => Status::Receiving,
-        Rc6State::LeadingPause => Status::Receiving,
-        Rc6State::HeaderData(_) => Status::Receiving,
-        Rc6State::Trailing => Status::Receiving,
-        Rc6State::Data(_) => Status::Receiving,
-        Rc6State::Done => Status::Done,
-        Rc6State::Error(fault) => Status::Error(fault),
+        Rc6State::Idle => stood(from_idle(cleared, rising)),
+        Rc6State::Leading => stood(from_idle(cleared, rising)),
+        Rc6State::LeadingPause => stood(from_idle(cleared, rising)),
+        Rc6State::HeaderData(n) => if 3 < n {
+            refused(in_header(n, m))
+        } else {
+            stood(from_idle(cleared, rising))
+        },
+        Rc6State::Trailing => stood(from_idle(cleared, rising)),
+        Rc6State::Data(n) => if 15 < n {
+            refused(in_data(n, m))
+        } else {
+            stood(from_idle(cleared, rising))
+        },
+        Rc6State::Done => stood(from_idle(cleared, rising)),
+        Rc6State::Error(_) => stood(from_idle(cleared, rising)),
     }
 }
 
@@ -329,6 +435,7 @@ pub fn fresh() -> Rc6Memory
     }
 }
 
+// Ticks are place + 1. A call for each place: the compiler then goes on from the place that it finds.
 pub fn event_in<'a>(
     low: &'a [u32; 8],
     high: &'a [u32; 8],
@@ -338,17 +445,17 @@ pub fn event_in<'a>(
 ) -> Rc6EventIn
     ensures { λ r. ⌜ r ≡ eventIn (now (low .entry)) (now (high .entry)) m rising duration ⌝ }
 {
-    let from = m.state;
-    if past_end(from) {
-        return Rc6EventIn {
-            status: Status::Refused(4),
-            memory: m,
-        };
+    match spans::place_of(spans::lookup_in(low, high, duration as u64)) {
+        0 => next_of(m, 1, rising),
+        1 => next_of(m, 2, rising),
+        2 => next_of(m, 3, rising),
+        3 => next_of(m, 4, rising),
+        4 => next_of(m, 5, rising),
+        5 => next_of(m, 6, rising),
+        6 => next_of(m, 7, rising),
+        7 => next_of(m, 8, rising),
+        _ => no_span(m, rising),
     }
-    let memory = step_in(low, high, m, rising, duration);
-    let to = memory.state;
-    let status = status_of(to);
-    Rc6EventIn { status, memory }
 }
 
 // A command in every state.
@@ -358,25 +465,7 @@ pub fn command_of(m: Rc6Memory) -> Report
     Report::Command(Command::Rc6(Rc6Command::unpack(m.data, m.toggle)))
 }
 
-// The rule of event_total, after a step.
-fn settle(after: Rc6Memory) -> Rc6TotalIn
-    ensures { λ r. ⌜ r ≡ ruled (stood after) ⌝ }
-{
-    let state = after.state;
-    let status = status_of(state);
-    let report = reports::report_of(status, command_of(after));
-    if reports::resets(status) {
-        let memory = reset_of(after);
-        Rc6TotalIn { report, memory }
-    } else {
-        Rc6TotalIn {
-            report,
-            memory: after,
-        }
-    }
-}
-
-// The rule over event_in, whose refusal is tested here again: past it the state is one that the compiler keeps in registers.
+// The rule of `reports` over event_in, by its status.
 pub fn total_in<'a>(
     low: &'a [u32; 8],
     high: &'a [u32; 8],
@@ -386,14 +475,31 @@ pub fn total_in<'a>(
 ) -> Rc6TotalIn
     ensures { λ r. ⌜ r ≡ totalIn (now (low .entry)) (now (high .entry)) m rising duration ⌝ }
 {
-    let state = m.state;
-    if past_end(state) {
-        return Rc6TotalIn {
-            report: Report::Refused(4),
-            memory: in_state(m, state),
-        };
+    let event = event_in(low, high, m, rising, duration);
+    let after = event.memory;
+    let status = event.status;
+    match status {
+        Status::Idle => Rc6TotalIn {
+            report: Report::Nothing,
+            memory: after,
+        },
+        Status::Receiving => Rc6TotalIn {
+            report: Report::Nothing,
+            memory: after,
+        },
+        Status::Done => Rc6TotalIn {
+            report: command_of(after),
+            memory: reset_of(after),
+        },
+        Status::Error(fault) => Rc6TotalIn {
+            report: Report::Error(fault),
+            memory: reset_of(after),
+        },
+        Status::Refused(number) => Rc6TotalIn {
+            report: Report::Refused(number),
+            memory: after,
+        },
     }
-    settle(step_in(low, high, m, rising, duration))
 }
 
 impl Rc6Decoder {

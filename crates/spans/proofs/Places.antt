@@ -1,7 +1,7 @@
 -- Which place a range of durations reads, as one computed test over the spans: the places before it lie apart from the range, and its own holds it.
--- The lookup follows the test place by place. And a duration above every high end reads none. Assumes nothing.
+-- The lookup follows the test place by place. And a duration above every high end reads none. No place is above 8. Assumes nothing.
 use mathlib.Core.Path.{_≡_, refl, ap, _∙_}
-use mathlib.Core.Bool.{Bool, true, false, _&&_, _||_}
+use mathlib.Core.Bool.{Bool, true, false, cond, _&&_, _||_}
 use mathlib.Core.List.{List}
 use Prim.Native.Nat.{ℕ, zero, suc, _+_, _≤_, _<_}
 use native.Mathlib.Nat.{zero-add}
@@ -10,7 +10,8 @@ use lib.Dec.{T, leb, ltb, ltb→lt, leb→le}
 use lib.ListN.{getD}
 use borrow.Author.Tests.{le-leb, lt-leb, ltb-true}
 use Rattle.spans.specs.Spans.{within, spansOf}
-use Rattle.spans.specs.Lookup.{lowestFrom, lookupIn, placeOf}
+use Rattle.spans.specs.Lookup.{holds, lowestFrom, lookupIn, placeOf}
+use Rattle.spans.specs.declared.Found.{Found}
 use Rattle.spans.specs.declared.Found.the-variants.{At, Nothing}
 
 and-false : (x : Bool) → (x && false) ≡ false
@@ -88,6 +89,35 @@ module _ (low high : List ℕ) where
 
     pub above-none : lookupIn low high duration ≡ Nothing
     above-none = above-lowest 8 0
+
+-- a number is none of the first n
+abbrev pub NoneBelow : ℕ → ℕ → Type 0
+NoneBelow zero k = Unit
+NoneBelow (suc n) k = NoneBelow n k × (k ≡ n → ⊥)
+
+none-below : (n k : ℕ) → NoneBelow n k → n ≤ k
+none-below zero k h = omega arith
+none-below (suc n) k (h, ne) = omega (arith, none-below n k h, ne)
+
+-- a place that is found is one of the eight, and none of them is 8
+module _ (low high : List ℕ) (duration : ℕ) where
+  lowest-le : (left place : ℕ) → place + left ≡ 8 → placeOf (lowestFrom low high duration left place) ≤ 8
+  unfolding lowestFrom
+  lowest-le zero place e = omega arith
+  lowest-le (suc left) place e = go (lowestFrom low high duration left (place + 1)) (holds low high duration place) (lowest-le left (place + 1) (omega arith))
+    where
+      go : (later : Found) (test : Bool) → placeOf later ≤ 8 → placeOf (cond test (At place) later) ≤ 8
+      go later true h = omega arith
+      go later false h = h
+
+  place-le : placeOf (lookupIn low high duration) ≤ 8
+  place-le = lowest-le 8 0 refl
+
+  -- a `match` on the place, past an arm for each of the eight
+  pub place-none : (place : ℕ) → place ≡ placeOf (lookupIn low high duration) → NoneBelow 8 place → place ≡ 8
+  place-none place e h =
+      let most : place ≤ 8 = rw e place-le in
+      omega (arith, most, none-below 8 place h)
 
 -- ---- at 1 MHz
 

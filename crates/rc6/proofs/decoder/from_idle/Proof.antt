@@ -1,4 +1,4 @@
--- `rc6::decoder::from_idle` meets its contract: by its one test. Assumes nothing.
+-- `rc6::decoder::from_idle` meets its contract: a rising edge or a falling one. Assumes nothing.
 use borrow.Author.Needs.{needs}
 use Rattle.rc6.proofs.decoder.from_idle.Statement.{statement}
 use Rattle.rc6.proofs.decoder.from_idle.Tie as tie
@@ -7,7 +7,12 @@ returns : tie.Need-returns
 returns c = simp (c .if1 .taken)
 
 returns-2 : tie.Need-returns-2
-returns-2 c = simp (c .in-state .ensures, c .before .if1 .left)
+returns-2 c = simp (c .to-idle .ensures, c .before .if1 .left)
 
 pub from-idle-spec : {M : Type 1} → statement M
-from-idle-spec = tie.close (tie.spec (λ c κs. search needs) returns returns-2)
+from-idle-spec =
+    tie.close
+    (tie.spec
+    (λ c κs. search needs)
+    returns
+    returns-2)

@@ -1,55 +1,67 @@
--- `rc6::decoder::next_of` meets its contract: each arm is a clause of the definition. Assumes nothing.
-use Rattle.rc6.proofs.Reach.{header-in-reach, data-in-reach}
+-- `rc6::decoder::next_of` meets its contract: each arm is a clause of the definition, past refusal 4. Assumes nothing.
+use borrow.Author.Tests.{le-ltb, lt-ltb}
+use Rattle.rc6.proofs.Same.{in-own-state}
 use borrow.Author.Needs.{needs}
 use Rattle.rc6.proofs.decoder.next_of.Statement.{statement}
 use Rattle.rc6.proofs.decoder.next_of.Tie as tie
 
-from-header-data-requires : tie.Need-from-header-data-requires
-from-header-data-requires c κs = header-in-reach (c .before .state .given .1) (c .before .before .before .pre)
-
-from-data-requires : tie.Need-from-data-requires
-from-data-requires c κs = data-in-reach (c .before .state2 .given .1) (c .before .before .before .pre)
-
 returns : tie.Need-returns
-returns c = simp (c .before .enum-told .given .1, c .from-idle .ensures)
+returns c = simp (c .stood .ensures, c .before .from-idle .ensures, c .before .before .enum-told .given .1, c .before .before .before .before .clocked .ensures)
 
 returns-2 : tie.Need-returns-2
-returns-2 c = simp (c .before .enum-told2 .given .1, c .from-leading .ensures)
+returns-2 c = simp (c .stood2 .ensures, c .before .from-leading .ensures, c .before .before .enum-told2 .given .1, c .before .before .before .before .clocked .ensures)
 
 returns-3 : tie.Need-returns-3
-returns-3 c = simp (c .before .enum-told3 .given .1, c .from-leading-pause .ensures)
+returns-3 c = simp (c .stood3 .ensures, c .before .from-leading-pause .ensures, c .before .before .enum-told3 .given .1, c .before .before .before .before .clocked .ensures)
 
 returns-4 : tie.Need-returns-4
-returns-4 c = simp (c .before .before .state .given .1, c .from-header-data .ensures)
+returns-4 c = simp (c .stood4 .ensures, c .before .from-header-data .ensures, c .before .before .before .before .state .given .1, le-ltb _ _ (c .before .before .if1 .taken), c .before .before .before .before .before .before .clocked .ensures)
 
 returns-5 : tie.Need-returns-5
-returns-5 c = simp (c .before .enum-told4 .given .1, c .from-trailing .ensures)
+returns-5 c = simp (c .refused .ensures, c .before .in-header .ensures, in-own-state (c .before .before .before .before .before .before .before .args .m) (c .before .before .before .before .state .given .1), c .before .before .before .before .state .given .1, lt-ltb _ _ (c .before .before .if1 .left))
 
 returns-6 : tie.Need-returns-6
-returns-6 c = simp (c .before .before .state2 .given .1, c .from-data .ensures)
+returns-6 c = simp (c .stood5 .ensures, c .before .from-trailing .ensures, c .before .before .enum-told4 .given .1, c .before .before .before .before .clocked .ensures)
 
 returns-7 : tie.Need-returns-7
-returns-7 c = simp (c .before .enum-told5 .given .1, c .in-state .ensures)
+returns-7 c = simp (c .stood6 .ensures, c .before .from-data .ensures, c .before .before .before .before .state2 .given .1, le-ltb _ _ (c .before .before .if2 .taken), c .before .before .before .before .before .before .clocked .ensures)
 
 returns-8 : tie.Need-returns-8
-returns-8 c = simp (c .before .before .state3 .given .1, c .in-state2 .ensures)
+returns-8 c = simp (c .refused2 .ensures, c .before .in-data .ensures, in-own-state (c .before .before .before .before .before .before .before .args .m) (c .before .before .before .before .state2 .given .1), c .before .before .before .before .state2 .given .1, lt-ltb _ _ (c .before .before .if2 .left))
+
+returns-9 : tie.Need-returns-9
+returns-9 c = simp (c .stood7 .ensures, c .before .enum-told5 .given .1, c .before .before .before .clocked .ensures)
+
+returns-10 : tie.Need-returns-10
+returns-10 c = simp (c .stood8 .ensures, c .before .before .state3 .given .1, c .before .before .before .before .clocked .ensures)
 
 pub next-of-spec : {M : Type 1} → statement M
 next-of-spec =
     tie.close
     (tie.spec
-    (λ c. search needs)
     (λ c κs. search needs)
     (λ c. search needs)
     (λ c κs. search needs)
-    (λ c. search needs)
     (λ c κs. search needs)
     (λ c. search needs)
-    from-header-data-requires
-    (λ c. search needs)
+    (λ c κs. search needs)
     (λ c κs. search needs)
     (λ c. search needs)
-    from-data-requires
+    (λ c κs. search needs)
+    (λ c κs. search needs)
+    (λ c. search needs)
+    (λ c κs. search needs)
+    (λ c κs. search needs)
+    (λ c κs. search needs)
+    (λ c κs. search needs)
+    (λ c. search needs)
+    (λ c κs. search needs)
+    (λ c κs. search needs)
+    (λ c. search needs)
+    (λ c κs. search needs)
+    (λ c κs. search needs)
+    (λ c κs. search needs)
+    (λ c κs. search needs)
     (λ c. search needs)
     (λ c κs. search needs)
     (λ c. search needs)
@@ -61,4 +73,6 @@ next-of-spec =
     returns-5
     returns-6
     returns-7
-    returns-8)
+    returns-8
+    returns-9
+    returns-10)
