@@ -8,14 +8,14 @@ use Prim.Native.Nat.{ℕ, _≤_, _-_, _%_, _^_}
 use native.Mathlib.Omega.{arith}
 use lib.Dec.{eqb, leb}
 use borrow.Author.Tests.{leb-true, le-leb, le-ltb}
-use Rattle.spans.specs.Lookup.{lookupIn, placeOf}
+use Rattle.spans.specs.Lookup.{none, lookupIn, placeOf}
 use Rattle.reports.specs.Run.{Edge}
 use Rattle.reports.specs.declared.Fault.{Fault}
 use Rattle.reports.specs.declared.Report.the-variants as report
 use Rattle.reports.proofs.Run.{after-keeps}
 use Rattle.reports.proofs.NoError.{errs, never}
 use Rattle.reports.proofs.Either.{either}
-use Rattle.rc5.specs.Decoder.{pastEnd, reachable, none, memoryOf, ticked, afterBit, nextOf, stepIn, stood, ruled, eventIn, totalIn, newAt, eventOf, resetIn, eventTotal, edgeReport, edgeAfter, decoderAfter}
+use Rattle.rc5.specs.Decoder.{pastEnd, reachable, memoryOf, ticked, afterBit, nextOf, stepIn, stood, ruled, eventIn, totalIn, newAt, eventOf, resetIn, eventTotal, edgeReport, edgeAfter, decoderAfter}
 use Rattle.rc5.specs.declared.decoder.Rc5State.{Rc5State}
 use Rattle.rc5.specs.declared.decoder.Rc5State.the-variants.{Idle, Data, Done, Error}
 use Rattle.rc5.specs.declared.decoder.Rc5Memory.{Rc5Memory}

@@ -5,7 +5,7 @@ use mathlib.Core.List.{List}
 use lib.Dec.{leb, ltb, eqb}
 use lib.Bits.{bitOr}
 use Rattle.spans.specs.Spans.{spansOf}
-use Rattle.spans.specs.Lookup.{lookupIn, placeOf}
+use Rattle.spans.specs.Lookup.{none, lookupIn, placeOf}
 use Rattle.commands.specs.Rc5.{unpackOf}
 use Rattle.commands.specs.declared.Command.the-variants as command
 use Rattle.reports.specs.Rule.{ruleReport, ruleAfter}
@@ -42,10 +42,6 @@ fresh = memoryOf Idle 0 0
 -- reset clears the bits and the clock, as the crate's does
 abbrev pub resetOf : Rc5Memory → Rc5Memory
 resetOf m = fresh
-
--- the place that stands for no span
-abbrev pub none : ℕ
-none = 8
 
 -- "ticks are place + 1"
 abbrev pub ticksOf : ℕ → ℕ

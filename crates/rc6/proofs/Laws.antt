@@ -8,11 +8,11 @@ use Prim.Native.Nat.{ℕ, _≤_, _-_}
 use native.Mathlib.Omega.{arith}
 use lib.Dec.{eqb, leb}
 use borrow.Author.Tests.{leb-true, le-leb, le-ltb}
-use Rattle.spans.specs.Lookup.{lookupIn, placeOf}
+use Rattle.spans.specs.Lookup.{none, lookupIn, placeOf}
 use Rattle.reports.specs.Run.{Edge}
 use Rattle.reports.proofs.Run.{after-keeps}
 use Rattle.reports.proofs.Either.{either}
-use Rattle.rc6.specs.Decoder.{pastEnd, reachable, none, ticksOf, memoryOf, ticked, isFall, isRise, isOdd, afterHeader, afterData, nextOf, stepIn, stood, ruled, eventIn, totalIn, newAt, eventOf, resetIn, eventTotal, edgeAfter, decoderAfter}
+use Rattle.rc6.specs.Decoder.{pastEnd, reachable, ticksOf, memoryOf, ticked, isFall, isRise, isOdd, afterHeader, afterData, nextOf, stepIn, stood, ruled, eventIn, totalIn, newAt, eventOf, resetIn, eventTotal, edgeAfter, decoderAfter}
 use Rattle.rc6.specs.declared.decoder.Rc6State.{Rc6State}
 use Rattle.rc6.specs.declared.decoder.Rc6State.the-variants.{Idle, Leading, LeadingPause, HeaderData, Trailing, Data, Done, Error}
 use Rattle.rc6.specs.declared.decoder.Rc6Memory.{Rc6Memory}

@@ -5,7 +5,7 @@ use mathlib.Core.List.{List}
 use lib.Dec.{leb, ltb, eqb}
 use lib.Bits.{bitOr}
 use Rattle.spans.specs.Spans.{spansOf}
-use Rattle.spans.specs.Lookup.{lookupIn, placeOf}
+use Rattle.spans.specs.Lookup.{none, lookupIn, placeOf}
 use Rattle.commands.specs.Rc6.{unpackOf}
 use Rattle.commands.specs.declared.Command.the-variants as command
 use Rattle.reports.specs.Rule.{ruleReport, ruleAfter}
@@ -51,10 +51,6 @@ fresh = memoryOf Idle 0 0 false 0
 -- reset: "it clears all but the toggle"
 abbrev pub resetOf : Rc6Memory → Rc6Memory
 resetOf m = memoryOf Idle 0 0 (m .toggle) 0
-
--- the place that stands for no span
-abbrev pub none : ℕ
-none = 8
 
 -- "ticks are place + 1"
 abbrev pub ticksOf : ℕ → ℕ
