@@ -15,7 +15,6 @@ use Rattle.denon.specs.Decoder.{pastEnd, reachable, fromLast, fromBit, f
 use Rattle.denon.specs.declared.decoder.DenonState.{DenonState}
 use Rattle.denon.specs.declared.decoder.DenonState.the-variants.{Idle, Data, Done}
 use Rattle.denon.specs.declared.decoder.DenonMemory.{DenonMemory}
-use Rattle.denon.specs.declared.decoder.DenonNext.{DenonNext}
 use Rattle.denon.specs.declared.decoder.DenonDecoder.{DenonDecoder}
 
 module _ (d : DenonDecoder) (rising : Bool) (duration : ℕ) where
@@ -28,7 +27,7 @@ module _ (d : DenonDecoder) (rising : Bool) (duration : ℕ) where
 pub reset-keeps-spans : (d : DenonDecoder) → resetIn d .spans ≡ d .spans
 reset-keeps-spans d = refl
 
-abbrev InReach : DenonNext → Type 0
+abbrev InReach : DenonMemory → Type 0
 InReach n = pastEnd (n .state) ≡ false
 
 from-data-in-reach : (n place bits : ℕ) → n ≤ 47 → InReach (fromData n place bits)

@@ -9,6 +9,7 @@ use Rattle.spans.proofs.spans_of as spans-of
 use Rattle.spans.proofs.lookup_in as lookup-in
 use Rattle.spans.proofs.lookup as lookup
 use Rattle.spans.proofs.place_of as place-of
+use Rattle.spans.proofs.again as again
 
 module _ {M : Type 1} (𝓤 : URA M) (H : Heap 𝓤) (𝓜 : Model 𝓤 H) (𝓖 : GhostRules 𝓤 H) (𝓡 : Running 𝓤 H 𝓜) where
   rate-taken-fixed : Fixed 𝓤 H (𝓖 .A) rate-taken.ended (rate-taken.clauses 𝓤 H (𝓖 .A) (𝓜 .mem) (𝓡 .run)) (𝓡 .run rate-taken.Symbol.routine)
@@ -25,3 +26,6 @@ module _ {M : Type 1} (𝓤 : URA M) (H : Heap 𝓤) (𝓜 : Model 𝓤 H) (𝓖
 
   place-of-fixed : Fixed 𝓤 H (𝓖 .A) place-of.ended (place-of.clauses 𝓤 H (𝓖 .A) (𝓜 .mem) (𝓡 .run)) (𝓡 .run place-of.Symbol.routine)
   place-of-fixed = (place-of.Met.met 𝓤 H 𝓜 𝓖 𝓡, λ κs a g h r s v w. both one one alike)
+
+  again-fixed : Fixed 𝓤 H (𝓖 .A) again.ended (again.clauses 𝓤 H (𝓖 .A) (𝓜 .mem) (𝓡 .run)) (𝓡 .run again.Symbol.routine)
+  again-fixed = (again.Met.met 𝓤 H 𝓜 𝓖 𝓡, λ κs a g h r s v w. both one one alike)

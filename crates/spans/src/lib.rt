@@ -3,6 +3,7 @@ mod tables;
 
 ghost use mathlib.Core.Path.{_≡_};
 ghost use Prim.Native.Nat.{_*_, _/_, _<_, _≤_};
+ghost use lib.ListN.{length};
 ghost use Rattle.spans.specs.Spans.{within, spanOf, spanAt, spansAt, rateTaken, protocolTaken, spansOf, refused};
 ghost use Rattle.spans.specs.Lookup.{lookupIn, lookupOf, placeOf};
 
@@ -172,5 +173,32 @@ pub fn place_of(found: Found) -> u32
     match found {
         Found::At(place) => place,
         Found::Nothing => 8,
+    }
+}
+
+// Eight ends, read one by one.
+fn ends<'a>(ends: &'a [u32]) -> [u32; 8]
+    requires { ⌜ length (now ends) ≡ 8 ⌝ }
+    ensures { λ r. ⌜ r ≡ now (ends .entry) ⌝ }
+{
+    [
+        ends[0],
+        ends[1],
+        ends[2],
+        ends[3],
+        ends[4],
+        ends[5],
+        ends[6],
+        ends[7],
+    ]
+}
+
+// The same spans, built end by end: an array that is handed on whole is moved as bytes, and its ends then stay in no register.
+pub fn again(spans: Spans) -> Spans
+    ensures { λ r. ⌜ r ≡ spans ⌝ }
+{
+    Spans {
+        low: ends(&spans.low),
+        high: ends(&spans.high),
     }
 }
