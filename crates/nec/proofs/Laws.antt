@@ -15,7 +15,6 @@ use Rattle.nec.specs.Decoder.{pastEnd, reachable, afterBit, nextOf, step
 use Rattle.nec.specs.declared.decoder.NecState.{NecState}
 use Rattle.nec.specs.declared.decoder.NecState.the-variants.{Init, Receiving, Done, RepeatDone, Error}
 use Rattle.nec.specs.declared.decoder.NecMemory.{NecMemory}
-use Rattle.nec.specs.declared.decoder.NecNext.{NecNext}
 use Rattle.nec.specs.declared.decoder.NecDecoder.{NecDecoder}
 
 module _ (d : NecDecoder) (rising : Bool) (duration : ℕ) where
@@ -28,7 +27,7 @@ module _ (d : NecDecoder) (rising : Bool) (duration : ℕ) where
 pub reset-keeps-spans : (d : NecDecoder) → resetIn d .spans ≡ d .spans
 reset-keeps-spans d = refl
 
-abbrev InReach : NecNext → Type 0
+abbrev InReach : NecMemory → Type 0
 InReach n = pastEnd (n .state) ≡ false
 
 after-bit-in-reach : (n : ℕ) → n ≤ 31 → pastEnd (afterBit n) ≡ false

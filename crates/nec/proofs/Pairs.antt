@@ -9,11 +9,10 @@ use Rattle.spans.specs.Lookup.{lookupIn, placeOf}
 use Rattle.reports.specs.Run.{Edge, runReports, Pair, totals, edge, edgesOf}
 use Rattle.reports.specs.declared.Report.{Report}
 use Rattle.reports.specs.declared.Report.the-variants.{Nothing}
-use Rattle.nec.specs.Decoder.{pastEnd, reachable, next, memoryOf, nextOf, stepIn, stood, ruled, totalIn, reportsOf}
+use Rattle.nec.specs.Decoder.{pastEnd, reachable, memoryOf, nextOf, kept, stepIn, stood, ruled, totalIn, reportsOf}
 use Rattle.nec.specs.declared.decoder.NecState.{NecState}
 use Rattle.nec.specs.declared.decoder.NecState.the-variants.{Init, Receiving, Done, RepeatDone, Error}
 use Rattle.nec.specs.declared.decoder.NecMemory.{NecMemory}
-use Rattle.nec.specs.declared.decoder.NecNext.{NecNext}
 use Rattle.nec.specs.declared.decoder.NecDecoder.{NecDecoder}
 use Rattle.nec.specs.declared.decoder.NecTotalIn.{NecTotalIn}
 use Rattle.nec.proofs.Laws.{reachable-in-reach, total-taken, total-reachable}
@@ -26,7 +25,7 @@ edgesAt (t ∷ ts) = edge false 0 ∷ edge true t ∷ edgesAt ts
 -- where nothing ends a frame the rule leaves all as it is
 waits
     : (state : NecState) (bits saved : ℕ) → reachable state ≡ true
-    → ruled (stood (memoryOf (next state bits) saved)) ≡ record { report = Nothing; memory = memoryOf (next state bits) saved }
+    → ruled (stood (memoryOf state bits saved)) ≡ record { report = Nothing; memory = memoryOf state bits saved }
 waits Init bits saved h = refl
 waits (Receiving n) bits saved h = refl
 waits Done bits saved h = cc
@@ -36,27 +35,27 @@ waits (Error fault) bits saved h = cc
 module _ (low high : List ℕ) where
   falls
       : (m : NecMemory) (duration : ℕ) → reachable (m .state) ≡ true
-      → totalIn low high m false duration ≡ record { report = Nothing; memory = memoryOf (next (m .state) (m .bits)) duration }
+      → totalIn low high m false duration ≡ record { report = Nothing; memory = kept m duration }
   unfolding stepIn
   falls m duration h =
       total-taken low high m duration false (reachable-in-reach (m .state) h) ∙ waits (m .state) (m .bits) duration h
 
   rises
-      : (n : NecNext) (fall rise t : ℕ) → fall + rise ≡ t → pastEnd (n .state) ≡ false
-      → totalIn low high (memoryOf n fall) true rise ≡ totalIn low high (memoryOf n 0) true t
+      : (m : NecMemory) (fall rise t : ℕ) → fall + rise ≡ t → pastEnd (m .state) ≡ false
+      → totalIn low high (kept m fall) true rise ≡ totalIn low high (kept m 0) true t
   unfolding stepIn
-  rises n fall rise t sum h =
+  rises m fall rise t sum h =
       let e : fall + rise ≡ 0 + t = omega arith in
-      total-taken low high (memoryOf n fall) rise true h
-      ∙ ap (λ (d : ℕ). ruled (stood (memoryOf (nextOf (n .state) (placeOf (lookupIn low high d)) (n .bits)) 0))) e
-      ∙ sym (total-taken low high (memoryOf n 0) t true h)
+      total-taken low high (kept m fall) rise true h
+      ∙ ap (λ (d : ℕ). ruled (stood (nextOf (m .state) (placeOf (lookupIn low high d)) (m .bits)))) e
+      ∙ sym (total-taken low high (kept m 0) t true h)
 
 abbrev with : NecDecoder → NecMemory → NecDecoder
 with d m = record { spans = d .spans; memory = m }
 
 -- what a pair with this total comes to
 abbrev afterPair : NecDecoder → ℕ → NecTotalIn
-afterPair d t = totalIn (d .spans .low) (d .spans .high) (memoryOf (next (d .memory .state) (d .memory .bits)) 0) true t
+afterPair d t = totalIn (d .spans .low) (d .spans .high) (kept (d .memory) 0) true t
 
 module _ (d : NecDecoder) (held : reachable (d .memory .state) ≡ true) where
   pair-reports
@@ -68,10 +67,10 @@ module _ (d : NecDecoder) (held : reachable (d .memory .state) ≡ true) where
       ap (λ (told : NecTotalIn). told .report ∷ reportsOf (with d (told .memory)) (edge true rise ∷ rest))
       (falls (d .spans .low) (d .spans .high) (d .memory) fall held)
       ∙ ap (λ (told : NecTotalIn). Nothing ∷ told .report ∷ reportsOf (with d (told .memory)) rest)
-      (rises (d .spans .low) (d .spans .high) (next (d .memory .state) (d .memory .bits)) fall rise t sum (reachable-in-reach (d .memory .state) held))
+      (rises (d .spans .low) (d .spans .high) (d .memory) fall rise t sum (reachable-in-reach (d .memory .state) held))
 
   pair-reachable : (t : ℕ) → reachable (afterPair d t .memory .state) ≡ true
-  pair-reachable t = total-reachable (d .spans .low) (d .spans .high) (memoryOf (next (d .memory .state) (d .memory .bits)) 0) t true held
+  pair-reachable t = total-reachable (d .spans .low) (d .spans .high) (kept (d .memory) 0) t true held
 
 pub by-totals : (d : NecDecoder) → reachable (d .memory .state) ≡ true → (ps : List Pair) → reportsOf d (edgesOf ps) ≡ reportsOf d (edgesAt (totals ps))
 unfolding edgesOf edgesAt totals
