@@ -158,6 +158,7 @@ fn kept(m: DenonMemory, saved: u32) -> DenonMemory
     }
 }
 
+// The status, and the memory made anew beside it: handed on whole it would be moved as bytes.
 fn stood(m: DenonMemory) -> DenonEventIn
     ensures { λ r. ⌜ r ≡ stood m ⌝ }
 {
@@ -165,15 +166,15 @@ fn stood(m: DenonMemory) -> DenonEventIn
     match state {
         DenonState::Idle => DenonEventIn {
             status: Status::Idle,
-            memory: m,
+            memory: kept(m, m.saved),
         },
         DenonState::Data(_) => DenonEventIn {
             status: Status::Receiving,
-            memory: m,
+            memory: kept(m, m.saved),
         },
         DenonState::Done => DenonEventIn {
             status: Status::Done,
-            memory: m,
+            memory: kept(m, m.saved),
         },
     }
 }

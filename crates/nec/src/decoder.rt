@@ -179,6 +179,7 @@ fn kept(m: NecMemory, saved: u32) -> NecMemory
     }
 }
 
+// The status, and the memory made anew beside it: bits and saved number, handed on together, would be moved as one number.
 fn stood(m: NecMemory) -> NecEventIn
     ensures { λ r. ⌜ r ≡ stood m ⌝ }
 {
@@ -186,23 +187,23 @@ fn stood(m: NecMemory) -> NecEventIn
     match state {
         NecState::Init => NecEventIn {
             status: Status::Idle,
-            memory: m,
+            memory: kept(m, m.saved),
         },
         NecState::Receiving(_) => NecEventIn {
             status: Status::Receiving,
-            memory: m,
+            memory: kept(m, m.saved),
         },
         NecState::Done => NecEventIn {
             status: Status::Done,
-            memory: m,
+            memory: kept(m, m.saved),
         },
         NecState::RepeatDone => NecEventIn {
             status: Status::Done,
-            memory: m,
+            memory: kept(m, m.saved),
         },
         NecState::Error(fault) => NecEventIn {
             status: Status::Error(fault),
-            memory: m,
+            memory: kept(m, m.saved),
         },
     }
 }

@@ -130,7 +130,7 @@ fn from_address(n: u16, place: u32, address: u16, command: u32, saved: u32) -> S
             command,
             saved,
         },
-        _ => failed(Fault::Address, address, command, saved),
+        _ => failed(Fault::Address, address, command, saved), // a bad pulse
     }
 }
 
