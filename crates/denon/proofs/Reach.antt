@@ -1,9 +1,9 @@
 -- The tests of a bit counter, as the definitions ask them. Assumes nothing.
-use mathlib.Core.Path.{_≡_, refl}
+use mathlib.Core.Path.{_≡_}
 use mathlib.Core.Bool.{true, false}
 use Prim.Native.Nat.{ℕ, _≤_, _<_}
 use native.Mathlib.Omega.{arith}
-use lib.Dec.{ltb, eqb}
+use lib.Dec.{ltb}
 use borrow.Author.Tests.{lt-ltb, le-ltb, ne-eqb}
 use Rattle.denon.specs.Decoder.{fromBit, nextOf, stood, answered}
 use Rattle.denon.specs.declared.decoder.DenonState.the-variants.{Data}
