@@ -6,9 +6,8 @@ use reports::Status;
 use spans::Answer;
 use spans::Spans;
 ghost use mathlib.Core.Path.{_≡_};
-ghost use mathlib.Core.Bool.{false};
 ghost use Prim.Native.Nat.{_≤_};
-ghost use Rattle.denon.specs.Decoder.{pastEnd, fromIdle, fromLast, fromBit, fromData, nextOf, statusOf, fresh, stepIn, eventIn, commandOf, resetOf, stood, ruled, totalIn, newAt, eventOf, commandIn, resetIn, eventTotal};
+ghost use Rattle.denon.specs.Decoder.{pastEnd, fromIdle, fromLast, fromBit, nextOf, kept, stood, refused, answered, fresh, eventIn, commandOf, resetOf, totalIn, newAt, eventOf, commandIn, resetIn, eventTotal};
 
 pub enum DenonState {
     Idle,
@@ -26,12 +25,6 @@ pub struct DenonMemory {
 pub struct DenonDecoder {
     pub spans: Spans,
     pub memory: DenonMemory,
-}
-
-// The state and the bits after a pulse, from one decision.
-pub struct DenonNext {
-    pub state: DenonState,
-    pub bits: u64,
 }
 
 // The answers: an enum cannot hold an array, so each stands beside the decoder or the memory.
@@ -71,130 +64,166 @@ pub fn past_end(state: DenonState) -> bool
     }
 }
 
-fn from_idle(place: u32, bits: u64) -> DenonNext
+// A pulse gives a memory made anew in each arm, with the saved number cleared: made so, it stays in registers.
+fn from_idle(place: u32, bits: u64) -> DenonMemory
     ensures { λ r. ⌜ r ≡ fromIdle place bits ⌝ }
 {
     match place {
         // sync
-        0 => DenonNext {
+        0 => DenonMemory {
             state: DenonState::Data(0),
             bits, // kept: only a reset clears them
+            saved: 0,
         },
-        _ => DenonNext {
+        _ => DenonMemory {
             state: DenonState::Idle,
             bits,
+            saved: 0,
         },
     }
 }
 
 // Bit 47 ends the frame.
-fn from_last(place: u32, bits: u64) -> DenonNext
+fn from_last(place: u32, bits: u64) -> DenonMemory
     ensures { λ r. ⌜ r ≡ fromLast place bits ⌝ }
 {
     match place {
         // zero
-        1 => DenonNext {
+        1 => DenonMemory {
             state: DenonState::Done,
             bits,
+            saved: 0,
         },
         // one
-        2 => DenonNext {
+        2 => DenonMemory {
             state: DenonState::Done,
             bits, // bit 47 is never stored
+            saved: 0,
         },
-        _ => DenonNext {
+        _ => DenonMemory {
             state: DenonState::Idle,
             bits,
+            saved: 0,
         },
     }
 }
 
-fn from_bit(n: u8, place: u32, bits: u64) -> DenonNext
+fn from_bit(n: u8, place: u32, bits: u64) -> DenonMemory
     requires { ⌜ n ≤ 46 ⌝ }
     ensures { λ r. ⌜ r ≡ fromBit n place bits ⌝ }
 {
     match place {
         // zero
-        1 => DenonNext {
+        1 => DenonMemory {
             state: DenonState::Data(n + 1),
             bits,
+            saved: 0,
         },
         // one
-        2 => DenonNext {
+        2 => DenonMemory {
             state: DenonState::Data(n + 1),
             bits: bits | (1 << n),
+            saved: 0,
         },
-        _ => DenonNext {
+        _ => DenonMemory {
             state: DenonState::Idle,
             bits, // those gathered so far
+            saved: 0,
         },
     }
 }
 
-fn from_data(n: u8, place: u32, bits: u64) -> DenonNext
-    requires { ⌜ n ≤ 47 ⌝ }
-    ensures { λ r. ⌜ r ≡ fromData n place bits ⌝ }
-{
-    if n == 47 {
-        from_last(place, bits)
-    } else {
-        from_bit(n, place, bits)
-    }
-}
-
-fn next_of(state: DenonState, place: u32, bits: u64) -> DenonNext
-    requires { ⌜ pastEnd state ≡ false ⌝ }
-    ensures { λ r. ⌜ r ≡ nextOf state place bits ⌝ }
-{
-    match state {
-        DenonState::Idle => from_idle(place, bits),
-        DenonState::Data(n) => from_data(n, place, bits),
-        DenonState::Done => DenonNext {
-            state: DenonState::Done,
-            bits,
-        },
-    }
-}
-
-// An edge that is not refused. The sum is exact: no span holds one above 32 bits.
-fn step_in<'a>(
-    low: &'a [u32; 8],
-    high: &'a [u32; 8],
-    m: DenonMemory,
-    rising: bool,
-    duration: u32,
-) -> DenonMemory
-    requires { ⌜ pastEnd (m .state) ≡ false ⌝ }
-    ensures { λ r. ⌜ r ≡ stepIn (now (low .entry)) (now (high .entry)) m rising duration ⌝ }
+// The same state and bits with another saved number.
+fn kept(m: DenonMemory, saved: u32) -> DenonMemory
+    ensures { λ r. ⌜ r ≡ kept m saved ⌝ }
 {
     let state = m.state;
     let bits = m.bits;
-    if rising {
-        let total = m.saved as u64 + duration as u64;
-        let place = spans::place_of(spans::lookup_in(low, high, total));
-        let next = next_of(state, place, bits);
-        let after = next.state;
-        DenonMemory {
-            state: after,
-            bits: next.bits,
-            saved: 0,
-        }
-    } else {
-        DenonMemory {
-            state,
+    match state {
+        DenonState::Idle => DenonMemory {
+            state: DenonState::Idle,
             bits,
-            saved: duration,
-        }
+            saved,
+        },
+        DenonState::Data(n) => DenonMemory {
+            state: DenonState::Data(n),
+            bits,
+            saved,
+        },
+        DenonState::Done => DenonMemory {
+            state: DenonState::Done,
+            bits,
+            saved,
+        },
     }
 }
 
-fn status_of(state: DenonState) -> Status
-    ensures { λ r. ⌜ r ≡ statusOf state ⌝ }
+// The status, and the memory made anew beside it: handed on whole it would be moved as bytes.
+fn stood(m: DenonMemory) -> DenonEventIn
+    ensures { λ r. ⌜ r ≡ stood m ⌝ }
 {
+    let state = m.state;
     match state {
-        DenonState::Idle => Status::Idle,
-        DenonState::Data(_) => Status::Receiving,
-        DenonState::Done => Status::Done,
+        DenonState::Idle => DenonEventIn {
+            status: Status::Idle,
+            memory: kept(m, m.saved),
+        },
+        DenonState::Data(_) => DenonEventIn {
+            status: Status::Receiving,
+            memory: kept(m, m.saved),
+        },
+        DenonState::Done => DenonEventIn {
+            status: Status::Done,
+            memory: kept(m, m.saved),
+        },
+    }
+}
+
+fn refused(m: DenonMemory) -> DenonEventIn
+    ensures { λ r. ⌜ r ≡ refused m ⌝ }
+{
+    DenonEventIn {
+        status: Status::Refused(4),
+        memory: m,
+    }
+}
+
+// A pulse at a rising edge.
+fn next_of(m: DenonMemory, place: u32) -> DenonEventIn
+    ensures { λ r. ⌜ r ≡ answered m (nextOf (m .state) place (m .bits)) ⌝ }
+{
+    let state = m.state;
+    let bits = m.bits;
+    match state {
+        DenonState::Idle => stood(from_idle(place, bits)),
+        DenonState::Data(n) => {
+            if n < 47 {
+                stood(from_bit(n, place, bits))
+            } else if n == 47 {
+                stood(from_last(place, bits))
+            } else {
+                refused(m)
+            }
+        }
+        DenonState::Done => stood(kept(m, 0)),
+    }
+}
+
+// A falling edge.
+fn save(m: DenonMemory, duration: u32) -> DenonEventIn
+    ensures { λ r. ⌜ r ≡ answered m (kept m duration) ⌝ }
+{
+    let state = m.state;
+    match state {
+        DenonState::Idle => stood(kept(m, duration)),
+        DenonState::Data(n) => {
+            if n <= 47 {
+                stood(kept(m, duration))
+            } else {
+                refused(m)
+            }
+        }
+        DenonState::Done => stood(kept(m, duration)),
     }
 }
 
@@ -209,6 +238,7 @@ pub fn fresh() -> DenonMemory
     }
 }
 
+// One call by place that Denon names, 8 for none of these: each place of the lookup goes on to its own arm. The sum is exact: no span holds one above 32 bits.
 pub fn event_in<'a>(
     low: &'a [u32; 8],
     high: &'a [u32; 8],
@@ -218,17 +248,17 @@ pub fn event_in<'a>(
 ) -> DenonEventIn
     ensures { λ r. ⌜ r ≡ eventIn (now (low .entry)) (now (high .entry)) m rising duration ⌝ }
 {
-    let state = m.state;
-    if past_end(state) {
-        return DenonEventIn {
-            status: Status::Refused(4),
-            memory: m,
-        };
+    if rising {
+        let total = m.saved as u64 + duration as u64;
+        match spans::place_of(spans::lookup_in(low, high, total)) {
+            0 => next_of(m, 0),
+            1 => next_of(m, 1),
+            2 => next_of(m, 2),
+            _ => next_of(m, 8),
+        }
+    } else {
+        save(m, duration)
     }
-    let memory = step_in(low, high, m, rising, duration);
-    let after = memory.state;
-    let status = status_of(after);
-    DenonEventIn { status, memory }
 }
 
 pub fn command_of(m: DenonMemory) -> Report
@@ -250,25 +280,7 @@ pub fn reset_of(m: DenonMemory) -> DenonMemory
     fresh()
 }
 
-// The rule of event_total, after a step.
-fn settle(after: DenonMemory) -> DenonTotalIn
-    ensures { λ r. ⌜ r ≡ ruled (stood after) ⌝ }
-{
-    let state = after.state;
-    let status = status_of(state);
-    let report = reports::report_of(status, command_of(after));
-    if reports::resets(status) {
-        let memory = reset_of(after);
-        DenonTotalIn { report, memory }
-    } else {
-        DenonTotalIn {
-            report,
-            memory: after,
-        }
-    }
-}
-
-// The rule over event_in, whose refusal is tested here again: past it the state is one that the compiler keeps in registers.
+// The rule of event_total, by the status. What is kept is made anew in each arm.
 pub fn total_in<'a>(
     low: &'a [u32; 8],
     high: &'a [u32; 8],
@@ -278,14 +290,31 @@ pub fn total_in<'a>(
 ) -> DenonTotalIn
     ensures { λ r. ⌜ r ≡ totalIn (now (low .entry)) (now (high .entry)) m rising duration ⌝ }
 {
-    let state = m.state;
-    if past_end(state) {
-        return DenonTotalIn {
-            report: Report::Refused(4),
-            memory: m,
-        };
+    let event = event_in(low, high, m, rising, duration);
+    let status = event.status;
+    let after = event.memory;
+    match status {
+        Status::Idle => DenonTotalIn {
+            report: Report::Nothing,
+            memory: kept(after, after.saved),
+        },
+        Status::Receiving => DenonTotalIn {
+            report: Report::Nothing,
+            memory: kept(after, after.saved),
+        },
+        Status::Done => DenonTotalIn {
+            report: command_of(after),
+            memory: reset_of(after),
+        },
+        Status::Error(fault) => DenonTotalIn {
+            report: Report::Error(fault),
+            memory: reset_of(after),
+        },
+        Status::Refused(number) => DenonTotalIn {
+            report: Report::Refused(number),
+            memory: kept(after, after.saved),
+        },
     }
-    settle(step_in(low, high, m, rising, duration))
 }
 
 impl DenonDecoder {
@@ -315,7 +344,7 @@ impl DenonDecoder {
         DenonEvent {
             status,
             decoder: DenonDecoder {
-                spans,
+                spans: spans::again(spans),
                 memory: after,
             },
         }
@@ -352,7 +381,7 @@ impl DenonDecoder {
         DenonTotal {
             report,
             decoder: DenonDecoder {
-                spans,
+                spans: spans::again(spans),
                 memory: after,
             },
         }

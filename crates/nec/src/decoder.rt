@@ -7,9 +7,8 @@ use reports::Status;
 use spans::Answer;
 use spans::Spans;
 ghost use mathlib.Core.Path.{_≡_};
-ghost use mathlib.Core.Bool.{false};
 ghost use Prim.Native.Nat.{_≤_};
-ghost use Rattle.nec.specs.Decoder.{pastEnd, afterBit, fromInit, fromReceiving, nextOf, statusOf, fresh, stepIn, eventIn, commandOf, resetOf, stood, ruled, totalIn, newAt, eventOf, commandIn, resetIn, eventTotal};
+ghost use Rattle.nec.specs.Decoder.{pastEnd, fromInit, fromReceiving, nextOf, kept, stood, refused, answered, fresh, eventIn, commandOf, resetOf, totalIn, newAt, eventOf, commandIn, resetIn, eventTotal};
 
 pub enum NecState {
     Init,
@@ -29,12 +28,6 @@ pub struct NecMemory {
 pub struct NecDecoder {
     pub spans: Spans,
     pub memory: NecMemory,
-}
-
-// The state and the bits after a pulse, from one decision.
-pub struct NecNext {
-    pub state: NecState,
-    pub bits: u32,
 }
 
 // The answers: an enum cannot hold an array, so each stands beside the decoder or the memory.
@@ -76,123 +69,194 @@ pub fn past_end(state: NecState) -> bool
     }
 }
 
-fn from_init(place: u32, bits: u32) -> NecNext
+// A pulse gives a memory made anew in each arm, with the saved number cleared: made so, it stays in registers.
+fn from_init(place: u32, bits: u32) -> NecMemory
     ensures { λ r. ⌜ r ≡ fromInit place bits ⌝ }
 {
     match place {
         // sync
-        0 => NecNext {
+        0 => NecMemory {
             state: NecState::Receiving(0),
             bits: 0,
+            saved: 0,
         },
         // repeat
-        1 => NecNext {
+        1 => NecMemory {
             state: NecState::RepeatDone,
             bits,
+            saved: 0,
         },
-        _ => NecNext {
+        _ => NecMemory {
             state: NecState::Init,
             bits,
+            saved: 0,
         },
     }
 }
 
-fn after_bit(n: u32) -> NecState
-    requires { ⌜ n ≤ 31 ⌝ }
-    ensures { λ r. ⌜ r ≡ afterBit n ⌝ }
-{
-    if n == 31 {
-        NecState::Done
-    } else {
-        NecState::Receiving(n + 1)
-    }
-}
-
-fn from_receiving(n: u32, place: u32, bits: u32) -> NecNext
-    requires { ⌜ n ≤ 31 ⌝ }
+fn from_bit(n: u32, place: u32, bits: u32) -> NecMemory
+    requires { ⌜ n ≤ 30 ⌝ }
     ensures { λ r. ⌜ r ≡ fromReceiving n place bits ⌝ }
 {
     match place {
         // zero
-        2 => NecNext {
-            state: after_bit(n),
+        2 => NecMemory {
+            state: NecState::Receiving(n + 1),
             bits,
+            saved: 0,
         },
         // one
-        3 => NecNext {
-            state: after_bit(n),
+        3 => NecMemory {
+            state: NecState::Receiving(n + 1),
             bits: bits | (1 << n),
+            saved: 0,
         },
-        _ => NecNext {
+        _ => NecMemory {
             state: NecState::Error(Fault::Data),
             bits,
+            saved: 0,
         },
     }
 }
 
-fn next_of(state: NecState, place: u32, bits: u32) -> NecNext
-    requires { ⌜ pastEnd state ≡ false ⌝ }
-    ensures { λ r. ⌜ r ≡ nextOf state place bits ⌝ }
+// Bit 31 ends the frame.
+fn from_last(place: u32, bits: u32) -> NecMemory
+    ensures { λ r. ⌜ r ≡ fromReceiving 31 place bits ⌝ }
 {
-    match state {
-        NecState::Init => from_init(place, bits),
-        NecState::Receiving(n) => from_receiving(n, place, bits),
-        NecState::Done => NecNext {
+    match place {
+        // zero
+        2 => NecMemory {
             state: NecState::Done,
             bits,
+            saved: 0,
         },
-        NecState::RepeatDone => NecNext {
-            state: NecState::RepeatDone,
-            bits,
+        // one
+        3 => NecMemory {
+            state: NecState::Done,
+            bits: bits | 0x8000_0000,
+            saved: 0,
         },
-        NecState::Error(fault) => NecNext {
-            state: NecState::Error(fault),
+        _ => NecMemory {
+            state: NecState::Error(Fault::Data),
             bits,
+            saved: 0,
         },
     }
 }
 
-// An edge that is not refused. The sum is exact: no span holds one above 32 bits.
-fn step_in<'a>(
-    low: &'a [u32; 8],
-    high: &'a [u32; 8],
-    m: NecMemory,
-    rising: bool,
-    duration: u32,
-) -> NecMemory
-    requires { ⌜ pastEnd (m .state) ≡ false ⌝ }
-    ensures { λ r. ⌜ r ≡ stepIn (now (low .entry)) (now (high .entry)) m rising duration ⌝ }
+// The same state and bits with another saved number.
+fn kept(m: NecMemory, saved: u32) -> NecMemory
+    ensures { λ r. ⌜ r ≡ kept m saved ⌝ }
 {
     let state = m.state;
     let bits = m.bits;
-    if rising {
-        let total = m.saved as u64 + duration as u64;
-        let place = spans::place_of(spans::lookup_in(low, high, total));
-        let next = next_of(state, place, bits);
-        let after = next.state;
-        NecMemory {
-            state: after,
-            bits: next.bits,
-            saved: 0,
-        }
-    } else {
-        NecMemory {
-            state,
+    match state {
+        NecState::Init => NecMemory {
+            state: NecState::Init,
             bits,
-            saved: duration,
-        }
+            saved,
+        },
+        NecState::Receiving(n) => NecMemory {
+            state: NecState::Receiving(n),
+            bits,
+            saved,
+        },
+        NecState::Done => NecMemory {
+            state: NecState::Done,
+            bits,
+            saved,
+        },
+        NecState::RepeatDone => NecMemory {
+            state: NecState::RepeatDone,
+            bits,
+            saved,
+        },
+        NecState::Error(fault) => NecMemory {
+            state: NecState::Error(fault),
+            bits,
+            saved,
+        },
     }
 }
 
-fn status_of(state: NecState) -> Status
-    ensures { λ r. ⌜ r ≡ statusOf state ⌝ }
+// The status, and the memory made anew beside it: bits and saved number, handed on together, would be moved as one number.
+fn stood(m: NecMemory) -> NecEventIn
+    ensures { λ r. ⌜ r ≡ stood m ⌝ }
 {
+    let state = m.state;
     match state {
-        NecState::Init => Status::Idle,
-        NecState::Receiving(_) => Status::Receiving,
-        NecState::Done => Status::Done,
-        NecState::RepeatDone => Status::Done,
-        NecState::Error(fault) => Status::Error(fault),
+        NecState::Init => NecEventIn {
+            status: Status::Idle,
+            memory: kept(m, m.saved),
+        },
+        NecState::Receiving(_) => NecEventIn {
+            status: Status::Receiving,
+            memory: kept(m, m.saved),
+        },
+        NecState::Done => NecEventIn {
+            status: Status::Done,
+            memory: kept(m, m.saved),
+        },
+        NecState::RepeatDone => NecEventIn {
+            status: Status::Done,
+            memory: kept(m, m.saved),
+        },
+        NecState::Error(fault) => NecEventIn {
+            status: Status::Error(fault),
+            memory: kept(m, m.saved),
+        },
+    }
+}
+
+fn refused(m: NecMemory) -> NecEventIn
+    ensures { λ r. ⌜ r ≡ refused m ⌝ }
+{
+    NecEventIn {
+        status: Status::Refused(4),
+        memory: m,
+    }
+}
+
+// A pulse at a rising edge.
+fn next_of(m: NecMemory, place: u32) -> NecEventIn
+    ensures { λ r. ⌜ r ≡ answered m (nextOf (m .state) place (m .bits)) ⌝ }
+{
+    let state = m.state;
+    let bits = m.bits;
+    match state {
+        NecState::Init => stood(from_init(place, bits)),
+        NecState::Receiving(n) => {
+            if n < 31 {
+                stood(from_bit(n, place, bits))
+            } else if n == 31 {
+                stood(from_last(place, bits))
+            } else {
+                refused(m)
+            }
+        }
+        NecState::Done => stood(kept(m, 0)),
+        NecState::RepeatDone => stood(kept(m, 0)),
+        NecState::Error(_) => stood(kept(m, 0)),
+    }
+}
+
+// A falling edge.
+fn save(m: NecMemory, duration: u32) -> NecEventIn
+    ensures { λ r. ⌜ r ≡ answered m (kept m duration) ⌝ }
+{
+    let state = m.state;
+    match state {
+        NecState::Init => stood(kept(m, duration)),
+        NecState::Receiving(n) => {
+            if n <= 31 {
+                stood(kept(m, duration))
+            } else {
+                refused(m)
+            }
+        }
+        NecState::Done => stood(kept(m, duration)),
+        NecState::RepeatDone => stood(kept(m, duration)),
+        NecState::Error(_) => stood(kept(m, duration)),
     }
 }
 
@@ -207,6 +271,7 @@ pub fn fresh() -> NecMemory
     }
 }
 
+// One call by place that NEC names, 8 for none of these: each place of the lookup goes on to its own arm. The sum is exact: no span holds one above 32 bits.
 pub fn event_in<'a>(
     low: &'a [u32; 8],
     high: &'a [u32; 8],
@@ -216,17 +281,18 @@ pub fn event_in<'a>(
 ) -> NecEventIn
     ensures { λ r. ⌜ r ≡ eventIn (now (low .entry)) (now (high .entry)) m rising duration ⌝ }
 {
-    let from = m.state;
-    if past_end(from) {
-        return NecEventIn {
-            status: Status::Refused(4),
-            memory: m,
-        };
+    if rising {
+        let total = m.saved as u64 + duration as u64;
+        match spans::place_of(spans::lookup_in(low, high, total)) {
+            0 => next_of(m, 0),
+            1 => next_of(m, 1),
+            2 => next_of(m, 2),
+            3 => next_of(m, 3),
+            _ => next_of(m, 8),
+        }
+    } else {
+        save(m, duration)
     }
-    let memory = step_in(low, high, m, rising, duration);
-    let to = memory.state;
-    let status = status_of(to);
-    NecEventIn { status, memory }
 }
 
 pub fn command_of(m: NecMemory) -> Report
@@ -254,25 +320,7 @@ pub fn reset_of(m: NecMemory) -> NecMemory
     }
 }
 
-// The rule of event_total, after a step.
-fn settle(after: NecMemory) -> NecTotalIn
-    ensures { λ r. ⌜ r ≡ ruled (stood after) ⌝ }
-{
-    let state = after.state;
-    let status = status_of(state);
-    let report = reports::report_of(status, command_of(after));
-    if reports::resets(status) {
-        let memory = reset_of(after);
-        NecTotalIn { report, memory }
-    } else {
-        NecTotalIn {
-            report,
-            memory: after,
-        }
-    }
-}
-
-// The rule over what event_in answers. The refusal returns before the rule: joined ahead of it, the state would not stay in registers.
+// The rule of event_total, by the status. What is kept is made anew in each arm.
 pub fn total_in<'a>(
     low: &'a [u32; 8],
     high: &'a [u32; 8],
@@ -282,14 +330,31 @@ pub fn total_in<'a>(
 ) -> NecTotalIn
     ensures { λ r. ⌜ r ≡ totalIn (now (low .entry)) (now (high .entry)) m rising duration ⌝ }
 {
-    let state = m.state;
-    if past_end(state) {
-        return NecTotalIn {
-            report: Report::Refused(4),
-            memory: m,
-        };
+    let event = event_in(low, high, m, rising, duration);
+    let status = event.status;
+    let after = event.memory;
+    match status {
+        Status::Idle => NecTotalIn {
+            report: Report::Nothing,
+            memory: kept(after, after.saved),
+        },
+        Status::Receiving => NecTotalIn {
+            report: Report::Nothing,
+            memory: kept(after, after.saved),
+        },
+        Status::Done => NecTotalIn {
+            report: command_of(after),
+            memory: reset_of(after),
+        },
+        Status::Error(fault) => NecTotalIn {
+            report: Report::Error(fault),
+            memory: reset_of(after),
+        },
+        Status::Refused(number) => NecTotalIn {
+            report: Report::Refused(number),
+            memory: kept(after, after.saved),
+        },
     }
-    settle(step_in(low, high, m, rising, duration))
 }
 
 impl NecDecoder {
@@ -319,7 +384,7 @@ impl NecDecoder {
         NecEvent {
             status,
             decoder: NecDecoder {
-                spans,
+                spans: spans::again(spans),
                 memory: after,
             },
         }
@@ -356,7 +421,7 @@ impl NecDecoder {
         NecTotal {
             report,
             decoder: NecDecoder {
-                spans,
+                spans: spans::again(spans),
                 memory: after,
             },
         }

@@ -62,7 +62,7 @@ works =
     }
 
 abbrev at : NecState → ℕ → ℕ → NecMemory
-at state bits saved = memoryOf (next state bits) saved
+at state bits saved = memoryOf state bits saved
 
 waits : {bits saved : ℕ} → Silent works (at Init bits saved)
 waits = record { nothing = refl; same = refl; taken = refl }
@@ -169,7 +169,7 @@ pub record Opened (m : NecMemory) (gap : ℕ) : Type 0 where
   pub told : edgeReport (of m) (edge true gap) ≡ first
   pub kept : edgeAfter (of m) (edge true gap) ≡ of (at Init bits 0)
 
-lost : (m : NecMemory) (gap : ℕ) → 14445 < gap → stepIn low high m true gap ≡ memoryOf (nextOf (m .state) 8 (m .bits)) 0
+lost : (m : NecMemory) (gap : ℕ) → 14445 < gap → stepIn low high m true gap ≡ nextOf (m .state) 8 (m .bits)
 unfolding stepIn
 lost m gap g = rw (is-none (m .saved + gap) (omega arith))
 
@@ -177,7 +177,7 @@ opened : (m : NecMemory) (state : NecState) (gap : ℕ) → m .state ≡ state �
 opened m Init gap e h g = record { first = report.Nothing; allowed = nothing; bits = m .bits; told = told; kept = kept }
   where
     after : stepIn low high m true gap ≡ at Init (m .bits) 0
-    after = lost m gap g ∙ ap (λ (state : NecState). memoryOf (nextOf state 8 (m .bits)) 0) e
+    after = lost m gap g ∙ ap (λ (state : NecState). nextOf state 8 (m .bits)) e
 
     told : edgeReport (of m) (edge true gap) ≡ report.Nothing
     told = works .taken-report m true gap (ap pastEnd e) ∙ ap (works .told) after
@@ -190,7 +190,7 @@ opened m (Receiving k) gap e h g = record { first = report.Error Data; allowed =
     in-reach = ap pastEnd e ∙ reachable-in-reach (Receiving k) h
 
     after : stepIn low high m true gap ≡ at (Error Data) (m .bits) 0
-    after = lost m gap g ∙ ap (λ (state : NecState). memoryOf (nextOf state 8 (m .bits)) 0) e
+    after = lost m gap g ∙ ap (λ (state : NecState). nextOf state 8 (m .bits)) e
 
     told : edgeReport (of m) (edge true gap) ≡ report.Error Data
     told = works .taken-report m true gap in-reach ∙ ap (works .told) after

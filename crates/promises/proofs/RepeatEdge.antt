@@ -1,7 +1,7 @@
 -- The captioner's question, one edge: what it does to the bits, what it reports, and who clears them (specs/Repeat). An edge that is taken is a pulse and the
 -- rule after it (RepeatPulse); one that is refused leaves all. Assumes nothing.
 use mathlib.Core.Path.{_≡_, refl, sym, ap, _∙_}
-use mathlib.Core.Bool.{Bool, true, false, cond}
+use mathlib.Core.Bool.{Bool, true, false}
 use Prim.Native.Nat.{ℕ, zero, suc, _^_, _%_, _/_, _<_}
 use native.Mathlib.Nat.{mod-lt}
 use native.Mathlib.Omega.{arith}
@@ -18,7 +18,6 @@ use Rattle.reports.proofs.Either.{either}
 use Rattle.nec.specs.Decoder as nec
 use Rattle.nec.specs.declared.decoder.NecDecoder.{NecDecoder}
 use Rattle.nec.specs.declared.decoder.NecMemory.{NecMemory}
-use Rattle.nec.specs.declared.decoder.NecNext.{NecNext}
 use Rattle.nec.specs.declared.decoder.NecState.the-variants.{Init, Receiving, Error}
 use Rattle.nec.specs.declared.decoder.NecTotalIn.{NecTotalIn}
 use Rattle.nec.proofs.Laws.{total-taken}
@@ -29,16 +28,13 @@ use Rattle.promises.proofs.RepeatPulse.{told, necCommand, ended, framed
 -- ---- one edge
 
 module _ (d : NecDecoder) (edge : Edge) where
-  abbrev pub next : NecNext
-  next = nextAt (d .memory .state) (reads d edge) (d .memory .bits) (edge .rising)
-
-  abbrev kept : NecMemory
-  kept = nec.memoryOf next (cond (edge .rising) 0 (edge .duration))
+  abbrev pub next : NecMemory
+  next = nextAt (d .memory .state) (reads d edge) (d .memory .bits) (edge .duration) (edge .rising)
 
   stepped
       : (rising : Bool)
       → nec.stepIn (d .spans .low) (d .spans .high) (d .memory) rising (edge .duration)
-      ≡ nec.memoryOf (nextAt (d .memory .state) (reads d edge) (d .memory .bits) rising) (cond rising 0 (edge .duration))
+      ≡ nextAt (d .memory .state) (reads d edge) (d .memory .bits) (edge .duration) rising
   unfolding nec.stepIn
   stepped true = refl
   stepped false = refl
@@ -51,7 +47,7 @@ module _ (d : NecDecoder) (edge : Edge) where
   refused h = rw h
 
   module _ (h : nec.pastEnd (d .memory .state) ≡ false) where
-    total-ruled : total ≡ nec.ruled (nec.stood kept)
+    total-ruled : total ≡ nec.ruled (nec.stood next)
     total-ruled =
         total-taken (d .spans .low) (d .spans .high) (d .memory) (edge .duration) (edge .rising) h
         ∙ ap (λ (m : NecMemory). nec.ruled (nec.stood m)) (stepped (edge .rising))
@@ -60,15 +56,15 @@ module _ (d : NecDecoder) (edge : Edge) where
     reported = ap (λ (t : NecTotalIn). t .report) total-ruled
 
     after-bits : nec.edgeAfter d edge .memory .bits ≡ next .bits
-    after-bits = ap (λ (t : NecTotalIn). t .memory .bits) total-ruled ∙ ruled-bits kept
+    after-bits = ap (λ (t : NecTotalIn). t .memory .bits) total-ruled ∙ ruled-bits next
 
     after-ended : ended (next .state) ≡ true → nec.edgeAfter d edge .memory .state ≡ Init
-    after-ended e = ap (λ (t : NecTotalIn). t .memory .state) total-ruled ∙ ruled-ended kept (next .state) refl e
+    after-ended e = ap (λ (t : NecTotalIn). t .memory .state) total-ruled ∙ ruled-ended next (next .state) refl e
 
     after-framed
         : framed (next .state) ≡ true → nec.edgeReport d edge ≡ report.Nothing → receiving (nec.edgeAfter d edge .memory .state) ≡ true
     after-framed f silent =
-        rw total-ruled (ruled-framed kept (next .state) (next .bits) refl f (sym reported ∙ silent))
+        rw total-ruled (ruled-framed next (next .state) (next .bits) refl f (sym reported ∙ silent))
 
   -- what is reported is no refusal
   taken-told : (r : Report) → nec.edgeReport d edge ≡ r → (r ≡ report.Refused 4 → true ≡ false) → nec.pastEnd (d .memory .state) ≡ false
@@ -93,16 +89,16 @@ only-sync-clears d edge = go (nec.pastEnd (d .memory .state)) refl
     go : (past : Bool) → nec.pastEnd (d .memory .state) ≡ past → nec.edgeAfter d edge .memory .bits ≡ gatheredAt d edge (d .memory .bits)
     go true h =
         ap (λ (t : NecTotalIn). t .memory .bits) (refused d edge h)
-        ∙ at-past (d .memory .state) (reads d edge) (d .memory .bits) (edge .rising) h
-    go false h = after-bits d edge h ∙ at-bits (d .memory .state) (reads d edge) (d .memory .bits) (edge .rising) h
+        ∙ at-past (d .memory .state) (reads d edge) (d .memory .bits) (edge .duration) (edge .rising) h
+    go false h = after-bits d edge h ∙ at-bits (d .memory .state) (reads d edge) (d .memory .bits) (edge .duration) (edge .rising) h
 
 -- a sync that opens leaves a decoder that forgot all before it
 pub sync-forgets
     : (d : NecDecoder) (edge : Edge) → opens d edge ≡ true
-    → (nec.edgeReport d edge ≡ report.Nothing) × (nec.edgeAfter d edge ≡ record { spans = d .spans; memory = nec.memoryOf (nec.next (Receiving 0) 0) 0 })
+    → (nec.edgeReport d edge ≡ report.Nothing) × (nec.edgeAfter d edge ≡ record { spans = d .spans; memory = nec.next (Receiving 0) 0 })
 unfolding opens
 sync-forgets d edge h =
-    let (within, opened) = at-opens (d .memory .state) (reads d edge) (d .memory .bits) (edge .rising) (edge .duration) h in
+    let (within, opened) = at-opens (d .memory .state) (reads d edge) (d .memory .bits) (edge .duration) (edge .rising) h in
     let all = total-ruled d edge within ∙ ap (λ (m : NecMemory). nec.ruled (nec.stood m)) opened in
     (ap (λ (t : NecTotalIn). t .report) all, ap (λ (t : NecTotalIn). record { spans = d .spans; memory = t .memory }) all)
 
@@ -118,7 +114,7 @@ pub error-clears-nothing : ErrorClearsNothing
 error-clears-nothing d edge fault said =
     let h = error-taken d edge fault said in
     after-bits d edge h
-    ∙ at-bare (d .memory .state) (reads d edge) (d .memory .bits) (edge .rising)
+    ∙ at-bare (d .memory .state) (reads d edge) (d .memory .bits) (edge .duration) (edge .rising)
     (told-error (next d edge .state) (next d edge .bits) fault (sym (reported d edge h) ∙ said) .0)
 
 pub command-clears-nothing : CommandClearsNothing
@@ -162,7 +158,7 @@ repeat-read d edge c said again =
     let h = command-taken d edge c said in
     let tells = sym (reported d edge h) ∙ said in
     let kept = told-repeat (next d edge .state) (next d edge .bits) c tells again in
-    let same = at-bare (d .memory .state) (reads d edge) (d .memory .bits) (edge .rising) kept in
+    let same = at-bare (d .memory .state) (reads d edge) (d .memory .bits) (edge .duration) (edge .rising) kept in
     told-command (next d edge .state) (next d edge .bits) c tells .0
     ∙ ap (λ (repeat : Bool). unpackOf (next d edge .bits) repeat) again
     ∙ ap (λ (bits : ℕ). unpackOf bits true) same
@@ -185,7 +181,7 @@ module _ (d : NecDecoder) (edge : Edge) (init : d .memory .state ≡ Init) (none
 
   waits : Waits (next d edge)
   unfolding opens
-  waits = at-waiting (d .memory .state) (reads d edge) (d .memory .bits) (edge .rising) init none
+  waits = at-waiting (d .memory .state) (reads d edge) (d .memory .bits) (edge .duration) (edge .rising) init none
 
   pub stays : nec.edgeAfter d edge .memory .state ≡ Init
   stays = after-ended d edge within (waits .1)
@@ -202,7 +198,7 @@ init-repeats d edge c init said =
 
 module _ (d : NecDecoder) (edge : Edge) (frame : receiving (d .memory .state) ≡ true) where
   frames : framed (next d edge .state) ≡ true
-  frames = at-framed (d .memory .state) (reads d edge) (d .memory .bits) (edge .rising) frame
+  frames = at-framed (d .memory .state) (reads d edge) (d .memory .bits) (edge .duration) (edge .rising) frame
 
   pub receives : nec.edgeReport d edge ≡ report.Nothing → receiving (nec.edgeAfter d edge .memory .state) ≡ true
   receives silent = after-framed d edge (taken-told d edge report.Nothing silent (λ h. cc)) frames silent

@@ -16,7 +16,6 @@ use Rattle.reports.specs.declared.Report.the-variants as report
 use Rattle.reports.proofs.Either.{either}
 use Rattle.nec.specs.Decoder as nec
 use Rattle.nec.specs.declared.decoder.NecMemory.{NecMemory}
-use Rattle.nec.specs.declared.decoder.NecNext.{NecNext}
 use Rattle.nec.specs.declared.decoder.NecState.{NecState}
 use Rattle.nec.specs.declared.decoder.NecState.the-variants.{Init, Receiving, Done, RepeatDone, Error}
 use Rattle.promises.specs.Repeat.{opensFrom, bitFrom}
@@ -71,7 +70,7 @@ bare Done = false
 bare RepeatDone = true
 bare (Error fault) = true
 
-abbrev BareKeeps : ℕ → NecNext → Type 0
+abbrev BareKeeps : ℕ → NecMemory → Type 0
 BareKeeps bits n = bare (n .state) ≡ true → n .bits ≡ bits
 
 bare-keeps : (state : NecState) (place bits : ℕ) → BareKeeps bits (nec.nextOf state place bits)
@@ -127,13 +126,13 @@ receiving Done = false
 receiving RepeatDone = false
 receiving (Error fault) = false
 
-abbrev pub Waits : NecNext → Type 0
+abbrev pub Waits : NecMemory → Type 0
 Waits n = (waiting (n .state) ≡ true) × (ended (n .state) ≡ true)
 
 waits-on : (place bits : ℕ) → opensFrom Init place ≡ false → Waits (nec.nextOf Init place bits)
 waits-on place bits h = rw h (either Waits (eqb place 1) (refl, refl) (refl, refl))
 
-abbrev Framed : NecNext → Type 0
+abbrev Framed : NecMemory → Type 0
 Framed n = framed (n .state) ≡ true
 
 frames-on : (n place bits : ℕ) → Framed (nec.nextOf (Receiving n) place bits)
@@ -215,13 +214,13 @@ ruled-bits m = either (λ (kept : NecMemory). kept .bits ≡ m .bits) (resetsAt 
 
 -- ---- one edge of a pulse: at a falling edge state and bits stay
 
-abbrev pub nextAt : NecState → ℕ → ℕ → Bool → NecNext
-nextAt state place bits rising = cond rising (nec.nextOf state place bits) (nec.next state bits)
+abbrev pub nextAt : NecState → ℕ → ℕ → ℕ → Bool → NecMemory
+nextAt state place bits duration rising = cond rising (nec.nextOf state place bits) (nec.memoryOf state bits duration)
 
-module _ (state : NecState) (place bits : ℕ) where
+module _ (state : NecState) (place bits duration : ℕ) where
   pub at-bits
       : (rising : Bool) → nec.pastEnd state ≡ false
-      → nextAt state place bits rising .bits ≡ cond (rising && opensFrom state place) 0 (bitOr bits (cond rising (bitFrom state place) 0))
+      → nextAt state place bits duration rising .bits ≡ cond (rising && opensFrom state place) 0 (bitOr bits (cond rising (bitFrom state place) 0))
   at-bits true h = next-bits state place bits h
   at-bits false h = sym (or-zero-r bits)
 
@@ -233,18 +232,18 @@ module _ (state : NecState) (place bits : ℕ) where
       rw (none, nothing) (sym (or-zero-r bits))
   at-past false h = sym (or-zero-r bits)
 
-  pub at-bare : (rising : Bool) → BareKeeps bits (nextAt state place bits rising)
+  pub at-bare : (rising : Bool) → BareKeeps bits (nextAt state place bits duration rising)
   at-bare true = bare-keeps state place bits
   at-bare false = λ h. refl
 
-  pub at-waiting : (rising : Bool) → state ≡ Init → (rising && opensFrom state place) ≡ false → Waits (nextAt state place bits rising)
+  pub at-waiting : (rising : Bool) → state ≡ Init → (rising && opensFrom state place) ≡ false → Waits (nextAt state place bits duration rising)
   at-waiting true e h = rw e (waits-on place bits (rw e at h))
   at-waiting false e h = (rw e, rw e)
 
-  pub at-framed : (rising : Bool) → receiving state ≡ true → Framed (nextAt state place bits rising)
+  pub at-framed : (rising : Bool) → receiving state ≡ true → Framed (nextAt state place bits duration rising)
   at-framed = go state
     where
-      go : (state : NecState) (rising : Bool) → receiving state ≡ true → Framed (nextAt state place bits rising)
+      go : (state : NecState) (rising : Bool) → receiving state ≡ true → Framed (nextAt state place bits duration rising)
       go Init rising r = cc
       go (Receiving n) true r = frames-on n place bits
       go (Receiving n) false r = refl
@@ -254,9 +253,9 @@ module _ (state : NecState) (place bits : ℕ) where
 
   -- a sync that opens stands at a rising edge
   pub at-opens
-      : (rising : Bool) (duration : ℕ) → (rising && opensFrom state place) ≡ true
-      → (nec.pastEnd state ≡ false) × (nec.memoryOf (nextAt state place bits rising) (cond rising 0 duration) ≡ nec.memoryOf (nec.next (Receiving 0) 0) 0)
-  at-opens true duration h =
+      : (rising : Bool) → (rising && opensFrom state place) ≡ true
+      → (nec.pastEnd state ≡ false) × (nextAt state place bits duration rising ≡ nec.next (Receiving 0) 0)
+  at-opens true h =
       let (within, opened) = opens-next state place bits h in
       (within, rw opened)
-  at-opens false duration h = (cc, cc)
+  at-opens false h = (cc, cc)

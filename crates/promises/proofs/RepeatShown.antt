@@ -16,7 +16,7 @@ use Rattle.reports.proofs.Either.{either}
 use Rattle.nec.specs.Encoder.{frameOf}
 use Rattle.nec.specs.Decoder as nec
 use Rattle.nec.specs.declared.decoder.NecDecoder.{NecDecoder}
-use Rattle.nec.specs.declared.decoder.NecNext.{NecNext}
+use Rattle.nec.specs.declared.decoder.NecMemory.{NecMemory}
 use Rattle.nec.specs.declared.decoder.NecTotal.{NecTotal}
 use Rattle.nec.proofs.Pairs.{edgesAt, by-totals}
 use Rattle.nec.proofs.Laws.{fresh-reachable}
@@ -41,7 +41,7 @@ behind pulse = nec.edgeReport (syncedAt 1000000) (edge true pulse)
 behind-silent : (pulse : ℕ) → NothingOrData (behind pulse)
 behind-silent pulse =
     let place = reads (syncedAt 1000000) (edge true pulse) in
-    let Holds : NecNext → Type 0 = λ n. NothingOrData (told (n .state) (n .bits)) in
+    let Holds : NecMemory → Type 0 = λ n. NothingOrData (told (n .state) (n .bits)) in
     rw (reported (syncedAt 1000000) (edge true pulse) refl)
     (either Holds (eqb place 2) nothing (either Holds (eqb place 3) nothing broken))
 

@@ -88,7 +88,7 @@ RepeatCarries =
 
 -- a receiver that just heard a sync: no bits, and bit 0 is awaited
 abbrev pub syncedAt : ℕ → NecDecoder
-syncedAt rate = record { spans = freshAt rate .spans; memory = nec.memoryOf (nec.next (Receiving 0) 0) 0 }
+syncedAt rate = record { spans = freshAt rate .spans; memory = nec.next (Receiving 0) 0 }
 
 -- the same in parts: with a sync that opens, all that came earlier is forgotten; where no later edge opens, it was the last
 abbrev pub RepeatCarriesSince : Type 0

@@ -16,7 +16,6 @@ use Rattle.sbp.specs.Decoder.{pastEnd, reachable, nextOf, stepIn, stood,
 use Rattle.sbp.specs.declared.decoder.SbpState.{SbpState}
 use Rattle.sbp.specs.declared.decoder.SbpState.the-variants.{Init, Address, Divider, Command, Done, Error}
 use Rattle.sbp.specs.declared.decoder.SbpMemory.{SbpMemory}
-use Rattle.sbp.specs.declared.decoder.SbpNext.{SbpNext}
 use Rattle.sbp.specs.declared.decoder.SbpDecoder.{SbpDecoder}
 
 module _ (d : SbpDecoder) (rising : Bool) (duration : ℕ) where
@@ -29,7 +28,7 @@ module _ (d : SbpDecoder) (rising : Bool) (duration : ℕ) where
 pub reset-keeps-spans : (d : SbpDecoder) → resetIn d .spans ≡ d .spans
 reset-keeps-spans d = refl
 
-abbrev InReach : SbpNext → Type 0
+abbrev InReach : SbpMemory → Type 0
 InReach n = pastEnd (n .state) ≡ false
 
 -- after a bit comes the end, or the next counter
@@ -42,17 +41,17 @@ after-in-reach n last ended more end counts h = go (eqb n last) refl
     go true e = end
     go false e = counts ∙ le-ltb last (n + 1) (omega (arith, eqb-false n last e))
 
-next-in-reach : (state : SbpState) (place address command : ℕ) → pastEnd state ≡ false → InReach (nextOf state place address command)
-next-in-reach Init place address command h = either InReach (eqb place 0) refl refl
-next-in-reach (Address n) place address command h =
+next-in-reach : (state : SbpState) (place address command saved : ℕ) → pastEnd state ≡ false → InReach (nextOf state place address command saved)
+next-in-reach Init place address command saved h = either InReach (eqb place 0) refl refl
+next-in-reach (Address n) place address command saved h =
     let e = after-in-reach n 15 Divider (Address (n + 1)) refl refl (ltb-false 15 n h) in
     either InReach (eqb place 2) e (either InReach (eqb place 3) e refl)
-next-in-reach Divider place address command h = either InReach (eqb place 1) refl refl
-next-in-reach (Command n) place address command h =
+next-in-reach Divider place address command saved h = either InReach (eqb place 1) refl refl
+next-in-reach (Command n) place address command saved h =
     let e = after-in-reach n 19 Done (Command (n + 1)) refl refl (ltb-false 19 n h) in
     either InReach (eqb place 2) e (either InReach (eqb place 3) e refl)
-next-in-reach Done place address command h = refl
-next-in-reach (Error fault) place address command h = refl
+next-in-reach Done place address command saved h = refl
+next-in-reach (Error fault) place address command saved h = refl
 
 pub reachable-in-reach : (state : SbpState) → reachable state ≡ true → pastEnd state ≡ false
 reachable-in-reach Init h = refl
@@ -74,7 +73,7 @@ ruled-reachable m (Error fault) e h = simp e
 module _ (low high : List ℕ) (m : SbpMemory) (duration : ℕ) where
   step-in-reach : (rising : Bool) → pastEnd (m .state) ≡ false → pastEnd (stepIn low high m rising duration .state) ≡ false
   unfolding stepIn
-  step-in-reach true h = next-in-reach (m .state) (placeOf (lookupIn low high (m .saved + duration))) (m .address) (m .command) h
+  step-in-reach true h = next-in-reach (m .state) (placeOf (lookupIn low high (m .saved + duration))) (m .address) (m .command) (m .saved) h
   step-in-reach false h = h
 
   -- an edge that is not refused: the rule after the step

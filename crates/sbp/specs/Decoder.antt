@@ -19,7 +19,6 @@ use Rattle.sbp.specs.declared.decoder.SbpState.{SbpState}
 use Rattle.sbp.specs.declared.decoder.SbpState.the-variants.{Init, Address, Divider, Command, Done, Error}
 use Rattle.sbp.specs.declared.decoder.SbpMemory.{SbpMemory}
 use Rattle.sbp.specs.declared.decoder.SbpDecoder.{SbpDecoder}
-use Rattle.sbp.specs.declared.decoder.SbpNext.{SbpNext}
 use Rattle.sbp.specs.declared.decoder.SbpMade.{SbpMade}
 use Rattle.sbp.specs.declared.decoder.SbpEventIn.{SbpEventIn}
 use Rattle.sbp.specs.declared.decoder.SbpEvent.{SbpEvent}
@@ -48,58 +47,57 @@ zeroBit = 2
 abbrev pub oneBit : ℕ
 oneBit = 3
 
--- the state, the address and the command after a pulse
-abbrev pub next : SbpState → ℕ → ℕ → SbpNext
-next state address bits = record { state = state; address = address; command = bits }
+-- what is remembered after a pulse. "NEC and Denon then clear the saved number, SBP doesn't"
+abbrev pub memoryOf : SbpState → ℕ → ℕ → ℕ → SbpMemory
+memoryOf state address bits saved = record { state = state; address = address; command = bits; saved = saved }
 
 -- "sync"; any other pulse leaves it
-abbrev pub fromInit : ℕ → ℕ → ℕ → SbpNext
-fromInit place address bits = cond (eqb place sync) (next (Address 0) address bits) (next Init address bits)
+abbrev pub fromInit : ℕ → ℕ → ℕ → ℕ → SbpMemory
+fromInit place address bits saved = cond (eqb place sync) (memoryOf (Address 0) address bits saved) (memoryOf Init address bits saved)
 
 -- "16 address bits": the last has number 15
 abbrev pub afterAddress : ℕ → SbpState
 afterAddress n = cond (eqb n 15) Divider (Address (n + 1))
 
 -- "lowest first. Bad address pulse: error Address"
-abbrev pub fromAddress : ℕ → ℕ → ℕ → ℕ → SbpNext
-fromAddress n place address bits =
-    cond (eqb place zeroBit) (next (afterAddress n) address bits)
-    (cond (eqb place oneBit) (next (afterAddress n) (bitOr address (2 ^ n)) bits) (next (Error fault.Address) address bits))
+abbrev pub fromAddress : ℕ → ℕ → ℕ → ℕ → ℕ → SbpMemory
+fromAddress n place address bits saved =
+    cond (eqb place zeroBit) (memoryOf (afterAddress n) address bits saved)
+    (cond (eqb place oneBit) (memoryOf (afterAddress n) (bitOr address (2 ^ n)) bits saved) (memoryOf (Error fault.Address) address bits saved))
 
 -- "pause"; "bad pause or command pulse: error Data"
-abbrev pub fromDivider : ℕ → ℕ → ℕ → SbpNext
-fromDivider place address bits =
-    cond (eqb place pause) (next (Command 0) address bits) (next (Error fault.Data) address bits)
+abbrev pub fromDivider : ℕ → ℕ → ℕ → ℕ → SbpMemory
+fromDivider place address bits saved =
+    cond (eqb place pause) (memoryOf (Command 0) address bits saved) (memoryOf (Error fault.Data) address bits saved)
 
 -- "20 command bits": the last has number 19
 abbrev pub afterCommand : ℕ → SbpState
 afterCommand n = cond (eqb n 19) Done (Command (n + 1))
 
 -- "lowest first"; "bad pause or command pulse: error Data"
-abbrev pub fromCommand : ℕ → ℕ → ℕ → ℕ → SbpNext
-fromCommand n place address bits =
-    cond (eqb place zeroBit) (next (afterCommand n) address bits)
-    (cond (eqb place oneBit) (next (afterCommand n) address (bitOr bits (2 ^ n))) (next (Error fault.Data) address bits))
+abbrev pub fromCommand : ℕ → ℕ → ℕ → ℕ → ℕ → SbpMemory
+fromCommand n place address bits saved =
+    cond (eqb place zeroBit) (memoryOf (afterCommand n) address bits saved)
+    (cond (eqb place oneBit) (memoryOf (afterCommand n) address (bitOr bits (2 ^ n)) saved) (memoryOf (Error fault.Data) address bits saved))
 
 -- "Done stays Done and an error stays"
-abbrev pub nextOf : SbpState → ℕ → ℕ → ℕ → SbpNext
-nextOf Init place address bits = fromInit place address bits
-nextOf (Address n) place address bits = fromAddress n place address bits
-nextOf Divider place address bits = fromDivider place address bits
-nextOf (Command n) place address bits = fromCommand n place address bits
-nextOf Done place address bits = next Done address bits
-nextOf (Error fault) place address bits = next (Error fault) address bits
+abbrev pub nextOf : SbpState → ℕ → ℕ → ℕ → ℕ → SbpMemory
+nextOf Init place address bits saved = fromInit place address bits saved
+nextOf (Address n) place address bits saved = fromAddress n place address bits saved
+nextOf Divider place address bits saved = fromDivider place address bits saved
+nextOf (Command n) place address bits saved = fromCommand n place address bits saved
+nextOf Done place address bits saved = memoryOf Done address bits saved
+nextOf (Error fault) place address bits saved = memoryOf (Error fault) address bits saved
 
--- what is remembered after it
-abbrev pub memoryOf : SbpNext → ℕ → SbpMemory
-memoryOf n saved = record { state = n .state; address = n .address; command = n .command; saved = saved }
+-- the same with another saved number
+abbrev pub kept : SbpMemory → ℕ → SbpMemory
+kept m saved = memoryOf (m .state) (m .address) (m .command) saved
 
--- "save the duration at a falling edge and look up saved + new at a rising edge. The sum is exact .. NEC and Denon then clear the saved number, SBP doesn't"
+-- "save the duration at a falling edge and look up saved + new at a rising edge. The sum is exact"
 unfoldable pub stepIn : List ℕ → List ℕ → SbpMemory → Bool → ℕ → SbpMemory
 stepIn low high m rising duration =
-    cond rising
-    (memoryOf (nextOf (m .state) (placeOf (lookupIn low high (m .saved + duration))) (m .address) (m .command)) (m .saved))
-    (memoryOf (next (m .state) (m .address) (m .command)) duration)
+    cond rising (nextOf (m .state) (placeOf (lookupIn low high (m .saved + duration))) (m .address) (m .command) (m .saved))
+    (kept m duration)
 
 -- idle in Init, done in Done; an error is its own status
 abbrev pub statusOf : SbpState → Status
@@ -114,10 +112,17 @@ statusOf (Error fault) = status.Error fault
 abbrev pub stood : SbpMemory → SbpEventIn
 stood m = record { status = statusOf (m .state); memory = m }
 
--- `event`: refusal 4 "is tested at each edge", and "the state as given" comes back
+-- refusal 4: "the state as given" comes back
+abbrev pub refused : SbpMemory → SbpEventIn
+refused m = record { status = status.Refused 4; memory = m }
+
+-- it "is tested at each edge"
+abbrev pub answered : SbpMemory → SbpMemory → SbpEventIn
+answered m after = cond (pastEnd (m .state)) (refused m) (stood after)
+
+-- `event`
 unfoldable pub eventIn : List ℕ → List ℕ → SbpMemory → Bool → ℕ → SbpEventIn
-eventIn low high m rising duration =
-    cond (pastEnd (m .state)) (record { status = status.Refused 4; memory = m }) (stood (stepIn low high m rising duration))
+eventIn low high m rising duration = answered m (stepIn low high m rising duration)
 
 -- "`command` answers in every state"
 abbrev pub commandOf : SbpMemory → Report
@@ -125,7 +130,7 @@ commandOf m = report.Command (command.Sbp (unpackOf (m .address) (m .command)))
 
 -- a fresh memory
 abbrev pub fresh : SbpMemory
-fresh = memoryOf (next Init 0 0) 0
+fresh = memoryOf Init 0 0 0
 
 -- reset clears the address, the command and the saved number
 abbrev pub resetOf : SbpMemory → SbpMemory

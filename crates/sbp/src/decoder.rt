@@ -7,9 +7,9 @@ use reports::Status;
 use spans::Answer;
 use spans::Spans;
 ghost use mathlib.Core.Path.{_≡_};
-ghost use mathlib.Core.Bool.{false};
 ghost use Prim.Native.Nat.{_≤_};
-ghost use Rattle.sbp.specs.Decoder.{pastEnd, fromInit, afterAddress, fromAddress, fromDivider, afterCommand, fromCommand, nextOf, statusOf, fresh, stepIn, eventIn, commandOf, resetOf, stood, ruled, totalIn, newAt, eventOf, commandIn, resetIn, eventTotal};
+ghost use Rattle.sbp.specs.declared.decoder.SbpState.the-variants.{Init, Error};
+ghost use Rattle.sbp.specs.Decoder.{pastEnd, memoryOf, fromInit, fromAddress, fromDivider, fromCommand, nextOf, kept, stood, refused, answered, fresh, eventIn, commandOf, resetOf, totalIn, newAt, eventOf, commandIn, resetIn, eventTotal};
 
 pub enum SbpState {
     Init,
@@ -31,13 +31,6 @@ pub struct SbpMemory {
 pub struct SbpDecoder {
     pub spans: Spans,
     pub memory: SbpMemory,
-}
-
-// The state, the address and the command after a pulse, from one decision.
-pub struct SbpNext {
-    pub state: SbpState,
-    pub address: u16,
-    pub command: u32,
 }
 
 // The answers: an enum cannot hold an array, so each stands beside the decoder or the memory.
@@ -80,183 +73,284 @@ pub fn past_end(state: SbpState) -> bool
     }
 }
 
-fn from_init(place: u32, address: u16, command: u32) -> SbpNext
-    ensures { λ r. ⌜ r ≡ fromInit place address command ⌝ }
+fn waiting(address: u16, command: u32, saved: u32) -> SbpMemory
+    ensures { λ r. ⌜ r ≡ memoryOf Init address command saved ⌝ }
+{
+    SbpMemory {
+        state: SbpState::Init,
+        address,
+        command,
+        saved,
+    }
+}
+
+fn failed(fault: Fault, address: u16, command: u32, saved: u32) -> SbpMemory
+    ensures { λ r. ⌜ r ≡ memoryOf (Error fault) address command saved ⌝ }
+{
+    SbpMemory {
+        state: SbpState::Error(fault),
+        address,
+        command,
+        saved,
+    }
+}
+
+// A pulse gives a memory made anew in each arm: made so, it stays in registers. The saved duration is kept, unlike NEC's and Denon's.
+fn from_init(place: u32, address: u16, command: u32, saved: u32) -> SbpMemory
+    ensures { λ r. ⌜ r ≡ fromInit place address command saved ⌝ }
 {
     match place {
         // sync
-        0 => SbpNext {
+        0 => SbpMemory {
             state: SbpState::Address(0),
             address,
             command,
+            saved,
         },
-        _ => SbpNext {
-            state: SbpState::Init,
-            address,
-            command,
-        },
+        _ => waiting(address, command, saved),
     }
 }
 
-fn after_address(n: u16) -> SbpState
-    requires { ⌜ n ≤ 15 ⌝ }
-    ensures { λ r. ⌜ r ≡ afterAddress n ⌝ }
-{
-    if n == 15 {
-        SbpState::Divider
-    } else {
-        SbpState::Address(n + 1)
-    }
-}
-
-fn from_address(n: u16, place: u32, address: u16, command: u32) -> SbpNext
-    requires { ⌜ n ≤ 15 ⌝ }
-    ensures { λ r. ⌜ r ≡ fromAddress n place address command ⌝ }
+fn from_address(n: u16, place: u32, address: u16, command: u32, saved: u32) -> SbpMemory
+    requires { ⌜ n ≤ 14 ⌝ }
+    ensures { λ r. ⌜ r ≡ fromAddress n place address command saved ⌝ }
 {
     match place {
         // zero
-        2 => SbpNext {
-            state: after_address(n),
+        2 => SbpMemory {
+            state: SbpState::Address(n + 1),
             address,
             command,
+            saved,
         },
         // one
-        3 => SbpNext {
-            state: after_address(n),
+        3 => SbpMemory {
+            state: SbpState::Address(n + 1),
             address: address | (1 << n),
             command,
+            saved,
         },
-        _ => SbpNext {
-            state: SbpState::Error(Fault::Address),
-            address,
-            command,
-        },
+        _ => failed(Fault::Address, address, command, saved), // a bad pulse
     }
 }
 
-fn from_divider(place: u32, address: u16, command: u32) -> SbpNext
-    ensures { λ r. ⌜ r ≡ fromDivider place address command ⌝ }
+// Bit 15 ends the address.
+fn from_last_address(place: u32, address: u16, command: u32, saved: u32) -> SbpMemory
+    ensures { λ r. ⌜ r ≡ fromAddress 15 place address command saved ⌝ }
+{
+    match place {
+        // zero
+        2 => SbpMemory {
+            state: SbpState::Divider,
+            address,
+            command,
+            saved,
+        },
+        // one
+        3 => SbpMemory {
+            state: SbpState::Divider,
+            address: address | 0x8000,
+            command,
+            saved,
+        },
+        _ => failed(Fault::Address, address, command, saved),
+    }
+}
+
+fn from_divider(place: u32, address: u16, command: u32, saved: u32) -> SbpMemory
+    ensures { λ r. ⌜ r ≡ fromDivider place address command saved ⌝ }
 {
     match place {
         // pause
-        1 => SbpNext {
+        1 => SbpMemory {
             state: SbpState::Command(0),
             address,
             command,
+            saved,
         },
-        _ => SbpNext {
-            state: SbpState::Error(Fault::Data),
-            address,
-            command,
-        },
+        _ => failed(Fault::Data, address, command, saved),
     }
 }
 
-fn after_command(n: u16) -> SbpState
-    requires { ⌜ n ≤ 19 ⌝ }
-    ensures { λ r. ⌜ r ≡ afterCommand n ⌝ }
-{
-    if n == 19 {
-        SbpState::Done
-    } else {
-        SbpState::Command(n + 1)
-    }
-}
-
-fn from_command(n: u16, place: u32, address: u16, command: u32) -> SbpNext
-    requires { ⌜ n ≤ 19 ⌝ }
-    ensures { λ r. ⌜ r ≡ fromCommand n place address command ⌝ }
+fn from_command(n: u16, place: u32, address: u16, command: u32, saved: u32) -> SbpMemory
+    requires { ⌜ n ≤ 18 ⌝ }
+    ensures { λ r. ⌜ r ≡ fromCommand n place address command saved ⌝ }
 {
     match place {
         // zero
-        2 => SbpNext {
-            state: after_command(n),
+        2 => SbpMemory {
+            state: SbpState::Command(n + 1),
             address,
             command,
+            saved,
         },
         // one
-        3 => SbpNext {
-            state: after_command(n),
+        3 => SbpMemory {
+            state: SbpState::Command(n + 1),
             address,
             command: command | (1 << n),
+            saved,
         },
-        _ => SbpNext {
-            state: SbpState::Error(Fault::Data),
-            address,
-            command,
-        },
+        _ => failed(Fault::Data, address, command, saved),
     }
 }
 
-fn next_of(state: SbpState, place: u32, address: u16, command: u32) -> SbpNext
-    requires { ⌜ pastEnd state ≡ false ⌝ }
-    ensures { λ r. ⌜ r ≡ nextOf state place address command ⌝ }
+// Bit 19 ends the frame.
+fn from_last_command(place: u32, address: u16, command: u32, saved: u32) -> SbpMemory
+    ensures { λ r. ⌜ r ≡ fromCommand 19 place address command saved ⌝ }
 {
-    match state {
-        SbpState::Init => from_init(place, address, command),
-        SbpState::Address(n) => from_address(n, place, address, command),
-        SbpState::Divider => from_divider(place, address, command),
-        SbpState::Command(n) => from_command(n, place, address, command),
-        SbpState::Done => SbpNext {
+    match place {
+        // zero
+        2 => SbpMemory {
             state: SbpState::Done,
             address,
             command,
+            saved,
         },
-        SbpState::Error(fault) => SbpNext {
-            state: SbpState::Error(fault),
+        // one
+        3 => SbpMemory {
+            state: SbpState::Done,
             address,
-            command,
+            command: command | 0x8_0000,
+            saved,
         },
+        _ => failed(Fault::Data, address, command, saved),
     }
 }
 
-// An edge that is not refused. The sum is exact: no span holds one above 32 bits.
-fn step_in<'a>(
-    low: &'a [u32; 8],
-    high: &'a [u32; 8],
-    m: SbpMemory,
-    rising: bool,
-    duration: u32,
-) -> SbpMemory
-    requires { ⌜ pastEnd (m .state) ≡ false ⌝ }
-    ensures { λ r. ⌜ r ≡ stepIn (now (low .entry)) (now (high .entry)) m rising duration ⌝ }
+// The same state, address and command with another saved number.
+fn kept(m: SbpMemory, saved: u32) -> SbpMemory
+    ensures { λ r. ⌜ r ≡ kept m saved ⌝ }
 {
     let state = m.state;
     let address = m.address;
     let command = m.command;
-    if rising {
-        let saved = m.saved;
-        let total = saved as u64 + duration as u64;
-        let place = spans::place_of(spans::lookup_in(low, high, total));
-        let next = next_of(state, place, address, command);
-        let after = next.state;
-        // The saved duration is kept, unlike NEC's and Denon's.
-        SbpMemory {
-            state: after,
-            address: next.address,
-            command: next.command,
-            saved,
-        }
-    } else {
-        SbpMemory {
-            state,
+    match state {
+        SbpState::Init => waiting(address, command, saved),
+        SbpState::Address(n) => SbpMemory {
+            state: SbpState::Address(n),
             address,
             command,
-            saved: duration,
-        }
+            saved,
+        },
+        SbpState::Divider => SbpMemory {
+            state: SbpState::Divider,
+            address,
+            command,
+            saved,
+        },
+        SbpState::Command(n) => SbpMemory {
+            state: SbpState::Command(n),
+            address,
+            command,
+            saved,
+        },
+        SbpState::Done => SbpMemory {
+            state: SbpState::Done,
+            address,
+            command,
+            saved,
+        },
+        SbpState::Error(fault) => failed(fault, address, command, saved),
     }
 }
 
-fn status_of(state: SbpState) -> Status
-    ensures { λ r. ⌜ r ≡ statusOf state ⌝ }
+fn stood(m: SbpMemory) -> SbpEventIn
+    ensures { λ r. ⌜ r ≡ stood m ⌝ }
 {
+    let state = m.state;
     match state {
-        SbpState::Init => Status::Idle,
-        SbpState::Address(_) => Status::Receiving,
-        SbpState::Divider => Status::Receiving,
-        SbpState::Command(_) => Status::Receiving,
-        SbpState::Done => Status::Done,
-        SbpState::Error(fault) => Status::Error(fault),
+        SbpState::Init => SbpEventIn {
+            status: Status::Idle,
+            memory: m,
+        },
+        SbpState::Address(_) => SbpEventIn {
+            status: Status::Receiving,
+            memory: m,
+        },
+        SbpState::Divider => SbpEventIn {
+            status: Status::Receiving,
+            memory: m,
+        },
+        SbpState::Command(_) => SbpEventIn {
+            status: Status::Receiving,
+            memory: m,
+        },
+        SbpState::Done => SbpEventIn {
+            status: Status::Done,
+            memory: m,
+        },
+        SbpState::Error(fault) => SbpEventIn {
+            status: Status::Error(fault),
+            memory: m,
+        },
+    }
+}
+
+fn refused(m: SbpMemory) -> SbpEventIn
+    ensures { λ r. ⌜ r ≡ refused m ⌝ }
+{
+    SbpEventIn {
+        status: Status::Refused(4),
+        memory: m,
+    }
+}
+
+// A pulse at a rising edge.
+fn next_of(m: SbpMemory, place: u32) -> SbpEventIn
+    ensures { λ r. ⌜ r ≡ answered m (nextOf (m .state) place (m .address) (m .command) (m .saved)) ⌝ }
+{
+    let state = m.state;
+    match state {
+        SbpState::Init => stood(from_init(place, m.address, m.command, m.saved)),
+        SbpState::Address(n) => {
+            if n < 15 {
+                stood(from_address(n, place, m.address, m.command, m.saved))
+            } else if n == 15 {
+                stood(from_last_address(place, m.address, m.command, m.saved))
+            } else {
+                refused(m)
+            }
+        }
+        SbpState::Divider => stood(from_divider(place, m.address, m.command, m.saved)),
+        SbpState::Command(n) => {
+            if n < 19 {
+                stood(from_command(n, place, m.address, m.command, m.saved))
+            } else if n == 19 {
+                stood(from_last_command(place, m.address, m.command, m.saved))
+            } else {
+                refused(m)
+            }
+        }
+        SbpState::Done => stood(kept(m, m.saved)),
+        SbpState::Error(_) => stood(kept(m, m.saved)),
+    }
+}
+
+// A falling edge.
+fn save(m: SbpMemory, duration: u32) -> SbpEventIn
+    ensures { λ r. ⌜ r ≡ answered m (kept m duration) ⌝ }
+{
+    let state = m.state;
+    match state {
+        SbpState::Init => stood(kept(m, duration)),
+        SbpState::Address(n) => {
+            if n <= 15 {
+                stood(kept(m, duration))
+            } else {
+                refused(m)
+            }
+        }
+        SbpState::Divider => stood(kept(m, duration)),
+        SbpState::Command(n) => {
+            if n <= 19 {
+                stood(kept(m, duration))
+            } else {
+                refused(m)
+            }
+        }
+        SbpState::Done => stood(kept(m, duration)),
+        SbpState::Error(_) => stood(kept(m, duration)),
     }
 }
 
@@ -272,6 +366,7 @@ pub fn fresh() -> SbpMemory
     }
 }
 
+// One call by place that SBP names, 8 for none of these: each place of the lookup goes on to its own arm. The sum is exact: no span holds one above 32 bits.
 pub fn event_in<'a>(
     low: &'a [u32; 8],
     high: &'a [u32; 8],
@@ -281,17 +376,18 @@ pub fn event_in<'a>(
 ) -> SbpEventIn
     ensures { λ r. ⌜ r ≡ eventIn (now (low .entry)) (now (high .entry)) m rising duration ⌝ }
 {
-    let state = m.state;
-    if past_end(state) {
-        return SbpEventIn {
-            status: Status::Refused(4),
-            memory: m,
-        };
+    if rising {
+        let total = m.saved as u64 + duration as u64;
+        match spans::place_of(spans::lookup_in(low, high, total)) {
+            0 => next_of(m, 0),
+            1 => next_of(m, 1),
+            2 => next_of(m, 2),
+            3 => next_of(m, 3),
+            _ => next_of(m, 8),
+        }
+    } else {
+        save(m, duration)
     }
-    let memory = step_in(low, high, m, rising, duration);
-    let after = memory.state;
-    let status = status_of(after);
-    SbpEventIn { status, memory }
 }
 
 // In every state.
@@ -308,25 +404,7 @@ pub fn reset_of(m: SbpMemory) -> SbpMemory
     fresh()
 }
 
-// The rule of event_total, after a step.
-fn settle(after: SbpMemory) -> SbpTotalIn
-    ensures { λ r. ⌜ r ≡ ruled (stood after) ⌝ }
-{
-    let state = after.state;
-    let status = status_of(state);
-    let report = reports::report_of(status, command_of(after));
-    if reports::resets(status) {
-        let memory = reset_of(after);
-        SbpTotalIn { report, memory }
-    } else {
-        SbpTotalIn {
-            report,
-            memory: after,
-        }
-    }
-}
-
-// The rule over event_in, whose refusal is tested here again: past it the state is one that the compiler keeps in registers.
+// The rule of event_total, by the status. What is kept is made anew in each arm.
 pub fn total_in<'a>(
     low: &'a [u32; 8],
     high: &'a [u32; 8],
@@ -336,14 +414,31 @@ pub fn total_in<'a>(
 ) -> SbpTotalIn
     ensures { λ r. ⌜ r ≡ totalIn (now (low .entry)) (now (high .entry)) m rising duration ⌝ }
 {
-    let state = m.state;
-    if past_end(state) {
-        return SbpTotalIn {
-            report: Report::Refused(4),
-            memory: m,
-        };
+    let event = event_in(low, high, m, rising, duration);
+    let status = event.status;
+    let after = event.memory;
+    match status {
+        Status::Idle => SbpTotalIn {
+            report: Report::Nothing,
+            memory: kept(after, after.saved),
+        },
+        Status::Receiving => SbpTotalIn {
+            report: Report::Nothing,
+            memory: kept(after, after.saved),
+        },
+        Status::Done => SbpTotalIn {
+            report: command_of(after),
+            memory: reset_of(after),
+        },
+        Status::Error(fault) => SbpTotalIn {
+            report: Report::Error(fault),
+            memory: reset_of(after),
+        },
+        Status::Refused(number) => SbpTotalIn {
+            report: Report::Refused(number),
+            memory: kept(after, after.saved),
+        },
     }
-    settle(step_in(low, high, m, rising, duration))
 }
 
 impl SbpDecoder {
@@ -373,7 +468,7 @@ impl SbpDecoder {
         SbpEvent {
             status,
             decoder: SbpDecoder {
-                spans,
+                spans: spans::again(spans),
                 memory: after,
             },
         }
@@ -410,7 +505,7 @@ impl SbpDecoder {
         SbpTotal {
             report,
             decoder: SbpDecoder {
-                spans,
+                spans: spans::again(spans),
                 memory: after,
             },
         }

@@ -8,7 +8,12 @@ returns : tie.Need-returns
 returns c = simp (c .match .keys1)
 
 returns-2 : tie.Need-returns-2
-returns-2 c = simp (ne-eqb _ 1 (c .match .rest .1))
+returns-2 c = simp (c .failed .ensures, ne-eqb _ 1 (c .before .match .rest .1))
 
 pub from-divider-spec : {M : Type 1} → statement M
-from-divider-spec = tie.close (tie.spec returns returns-2)
+from-divider-spec =
+    tie.close
+    (tie.spec
+    (λ c κs. search needs)
+    returns
+    returns-2)

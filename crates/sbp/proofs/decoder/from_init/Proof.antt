@@ -8,7 +8,12 @@ returns : tie.Need-returns
 returns c = simp (c .match .keys1)
 
 returns-2 : tie.Need-returns-2
-returns-2 c = simp (ne-eqb _ 0 (c .match .rest .1))
+returns-2 c = simp (c .waiting .ensures, ne-eqb _ 0 (c .before .match .rest .1))
 
 pub from-init-spec : {M : Type 1} → statement M
-from-init-spec = tie.close (tie.spec returns returns-2)
+from-init-spec =
+    tie.close
+    (tie.spec
+    (λ c κs. search needs)
+    returns
+    returns-2)

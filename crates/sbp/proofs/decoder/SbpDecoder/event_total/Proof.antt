@@ -4,7 +4,7 @@ use Rattle.sbp.proofs.decoder.SbpDecoder.event_total.Statement.{stateme
 use Rattle.sbp.proofs.decoder.SbpDecoder.event_total.Tie as tie
 
 returns : tie.Need-returns
-returns c = simp (c .before .total-in .ensures)
+returns c = simp (c .again .ensures, c .before .before .total-in .ensures)
 
 pub event-total-spec : {M : Type 1} → statement M
-event-total-spec = tie.close (tie.spec (λ c κs. search needs) returns)
+event-total-spec = tie.close (tie.spec (λ c κs. search needs) (λ c κs. search needs) returns)
