@@ -249,7 +249,7 @@ pub fn reset_of(m: Rc5Memory) -> Rc5Memory
     fresh()
 }
 
-// The rule of `reports` over event_in, by its status.
+// The rule of `reports` over event_in.
 pub fn total_in<'a>(
     low: &'a [u32; 8],
     high: &'a [u32; 8],
@@ -260,29 +260,17 @@ pub fn total_in<'a>(
     ensures { λ r. ⌜ r ≡ totalIn (now (low .entry)) (now (high .entry)) m rising duration ⌝ }
 {
     let event = event_in(low, high, m, rising, duration);
-    let after = event.memory;
     let status = event.status;
-    match status {
-        Status::Idle => Rc5TotalIn {
-            report: Report::Nothing,
+    let after = event.memory;
+    let report = reports::report_of(status, command_of(after));
+    if reports::resets(status) {
+        let memory = reset_of(after);
+        Rc5TotalIn { report, memory }
+    } else {
+        Rc5TotalIn {
+            report,
             memory: after,
-        },
-        Status::Receiving => Rc5TotalIn {
-            report: Report::Nothing,
-            memory: after,
-        },
-        Status::Done => Rc5TotalIn {
-            report: command_of(after),
-            memory: reset_of(after),
-        },
-        Status::Error(fault) => Rc5TotalIn {
-            report: Report::Error(fault),
-            memory: reset_of(after),
-        },
-        Status::Refused(number) => Rc5TotalIn {
-            report: Report::Refused(number),
-            memory: after,
-        },
+        }
     }
 }
 

@@ -465,7 +465,7 @@ pub fn command_of(m: Rc6Memory) -> Report
     Report::Command(Command::Rc6(Rc6Command::unpack(m.data, m.toggle)))
 }
 
-// The rule of `reports` over event_in, by its status.
+// The rule of `reports` over event_in.
 pub fn total_in<'a>(
     low: &'a [u32; 8],
     high: &'a [u32; 8],
@@ -476,29 +476,17 @@ pub fn total_in<'a>(
     ensures { λ r. ⌜ r ≡ totalIn (now (low .entry)) (now (high .entry)) m rising duration ⌝ }
 {
     let event = event_in(low, high, m, rising, duration);
-    let after = event.memory;
     let status = event.status;
-    match status {
-        Status::Idle => Rc6TotalIn {
-            report: Report::Nothing,
+    let after = event.memory;
+    let report = reports::report_of(status, command_of(after));
+    if reports::resets(status) {
+        let memory = reset_of(after);
+        Rc6TotalIn { report, memory }
+    } else {
+        Rc6TotalIn {
+            report,
             memory: after,
-        },
-        Status::Receiving => Rc6TotalIn {
-            report: Report::Nothing,
-            memory: after,
-        },
-        Status::Done => Rc6TotalIn {
-            report: command_of(after),
-            memory: reset_of(after),
-        },
-        Status::Error(fault) => Rc6TotalIn {
-            report: Report::Error(fault),
-            memory: reset_of(after),
-        },
-        Status::Refused(number) => Rc6TotalIn {
-            report: Report::Refused(number),
-            memory: after,
-        },
+        }
     }
 }
 

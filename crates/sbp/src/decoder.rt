@@ -404,7 +404,7 @@ pub fn reset_of(m: SbpMemory) -> SbpMemory
     fresh()
 }
 
-// The rule of event_total, by the status. What is kept is made anew in each arm.
+// The rule of `reports` over event_in. What is kept is made anew, so that it stays in registers.
 pub fn total_in<'a>(
     low: &'a [u32; 8],
     high: &'a [u32; 8],
@@ -417,27 +417,13 @@ pub fn total_in<'a>(
     let event = event_in(low, high, m, rising, duration);
     let status = event.status;
     let after = event.memory;
-    match status {
-        Status::Idle => SbpTotalIn {
-            report: Report::Nothing,
-            memory: kept(after, after.saved),
-        },
-        Status::Receiving => SbpTotalIn {
-            report: Report::Nothing,
-            memory: kept(after, after.saved),
-        },
-        Status::Done => SbpTotalIn {
-            report: command_of(after),
-            memory: reset_of(after),
-        },
-        Status::Error(fault) => SbpTotalIn {
-            report: Report::Error(fault),
-            memory: reset_of(after),
-        },
-        Status::Refused(number) => SbpTotalIn {
-            report: Report::Refused(number),
-            memory: kept(after, after.saved),
-        },
+    let report = reports::report_of(status, command_of(after));
+    if reports::resets(status) {
+        let memory = reset_of(after);
+        SbpTotalIn { report, memory }
+    } else {
+        let memory = kept(after, after.saved);
+        SbpTotalIn { report, memory }
     }
 }
 
