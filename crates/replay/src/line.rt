@@ -2,44 +2,38 @@
 pub struct Line {
     // the name's letters, as digits of base 256
     pub name: u64,
-    // the numbers begun
+    // the numbers begun; 9 where the line is not in the language
     pub count: usize,
-    // the number begun last has a digit
-    pub digits: bool,
-    // all so far is in the language
-    pub good: bool,
-    // a byte was read
-    pub begun: bool,
-    // the place in the text that gathers the answers
-    pub at: usize,
+    // the name, or the number begun last, has a character
+    pub is_whole: bool,
 }
 
-pub fn fresh(at: usize) -> Line {
+pub fn fresh() -> Line {
     Line {
         name: 0,
         count: 0,
-        digits: false,
-        good: true,
-        begun: false,
-        at,
+        is_whole: false,
     }
 }
 
-fn broken(line: Line) -> Line {
-    let mut l = line;
-    l.good = false;
-    l.begun = true;
-    l
+// Whatever follows, the line stays so: no number is begun behind the eighth.
+fn broken() -> Line {
+    Line {
+        name: 0,
+        count: 9,
+        is_whole: false,
+    }
 }
 
 fn with_letter(line: Line, b: u8) -> Line {
     if line.name < 0x100000000000000 {
-        let mut l = line;
-        l.name = line.name * 256 + b as u64;
-        l.begun = true;
-        return l;
+        return Line {
+            name: line.name * 256 + b as u64,
+            count: 0,
+            is_whole: true,
+        };
     }
-    broken(line)
+    broken()
 }
 
 // A number goes up to 2^64 - 1.
@@ -51,34 +45,32 @@ fn with_digit(line: Line, numbers: &mut [u64; 8], d: u8) -> Line {
             let x = numbers[last];
             if x <= (0xFFFFFFFFFFFFFFFF - d as u64) / 10 {
                 numbers[last] = x * 10 + d as u64;
-                let mut l = line;
-                l.digits = true;
-                return l;
+                return Line {
+                    name: line.name,
+                    count,
+                    is_whole: true,
+                };
             }
         }
     }
-    broken(line)
+    broken()
 }
 
 // A blank ends the name or a number, and begins the next number.
 fn with_blank(line: Line, numbers: &mut [u64; 8]) -> Line {
     let count = line.count;
-    if count < 8 {
-        if is_whole(line) {
-            numbers[count] = 0;
-            let mut l = line;
-            l.count = count + 1;
-            l.digits = false;
-            return l;
-        }
+    if count < 8 && line.is_whole {
+        numbers[count] = 0;
+        return Line {
+            name: line.name,
+            count: count + 1,
+            is_whole: false,
+        };
     }
-    broken(line)
+    broken()
 }
 
 pub fn fed(line: Line, numbers: &mut [u64; 8], b: u8) -> Line {
-    if !line.good {
-        return line;
-    }
     if b == b' ' {
         return with_blank(line, numbers);
     }
@@ -89,21 +81,17 @@ pub fn fed(line: Line, numbers: &mut [u64; 8], b: u8) -> Line {
     } else if b'0' <= b && b <= b'9' {
         return with_digit(line, numbers, b - b'0');
     }
-    broken(line)
+    broken()
 }
 
-// The name, or the number begun last, has a character.
-fn is_whole(line: Line) -> bool {
-    if line.count == 0 {
-        0 < line.name
-    } else {
-        line.digits
-    }
+// A byte was read.
+pub fn is_begun(line: Line) -> bool {
+    0 < line.name || 0 < line.count
 }
 
 // The line is a name and that many numbers.
 pub fn is_call(line: Line, name: u64, count: usize) -> bool {
-    line.good && line.name == name && line.count == count && is_whole(line)
+    line.is_whole && line.name == name && line.count == count
 }
 
 // A number fits 32 bits; and its low 32 bits, which are then the number.
@@ -113,4 +101,8 @@ pub fn is_u32(x: u64) -> bool {
 
 pub fn low_32(x: u64) -> u32 {
     (x % 0x100000000) as u32
+}
+
+pub fn low_8(x: u64) -> u8 {
+    (x % 256) as u8
 }

@@ -8,6 +8,7 @@ use Rattle.receiver.specs.Decoder.{eventOf, eventTotal, commandIn, resetIn}
 use Rattle.receiver.specs.declared.decoder.Decoder.{Decoder}
 use Rattle.polled.specs.Polled.{polledAt, pollOf, idled}
 use Rattle.polled.specs.declared.Polled.{Polled}
+use Rattle.polled.specs.declared.PolledMade.{PolledMade}
 use Rattle.answers.specs.Answers.{word, textOf, statusSaid, reportSaid, answerSaid, isTaken, notOpen}
 use Rattle.answers.specs.declared.Said.{Said}
 use Rattle.slots.specs.declared.Slot.{Slot}
@@ -28,11 +29,13 @@ abbrev pub withDecoder : Polled → Decoder → Polled
 withDecoder p decoder = record { decoder = decoder; clock = p .clock; edge = p .edge; level = p .level }
 
 -- `open` and `polled`: a fresh receiver; refused, the slot as it was
-abbrev pub openedAt : Slot → ℕ → ℕ → Done
-openedAt slot protocol rate =
-    let made = polledAt protocol rate in
+abbrev pub openedBy : Slot → PolledMade → Done
+openedBy slot made =
     cond (isTaken (made .answer)) (heldBy (answerSaid (made .answer)) (made .receiver))
     (record { said = answerSaid (made .answer); slot = slot })
+
+abbrev pub openedAt : Slot → ℕ → ℕ → Done
+openedAt slot protocol rate = openedBy slot (polledAt protocol rate)
 
 abbrev pub eventAt : Polled → Bool → ℕ → Done
 eventAt p rising duration =

@@ -7,13 +7,12 @@ use answers::of_report;
 use answers::of_status;
 use answers::text;
 use polled::Polled;
+use polled::PolledMade;
 use polled::poll_through;
 use receiver::decoder::Decoder;
 use reports::Report;
 ghost use mathlib.Core.Path.{_≡_};
-ghost use Rattle.answers.specs.Answers.{notOpen};
-ghost use Rattle.polled.specs.Polled.{idled};
-ghost use Rattle.slots.specs.Slots.{closedSlot, heldBy, withDecoder, openedAt, eventAt, totalAt, commandAt, resetAt, firstOf, polledAgain, runs, started, pollsAt, idleAt, askedIn, askedAt};
+ghost use Rattle.slots.specs.Slots.{closedSlot, heldBy, withDecoder, openedBy, openedAt, eventAt, totalAt, commandAt, resetAt, firstOf, polledAgain, runs, pollsAt, idleAt, askedIn, askedAt};
 
 // A closed slot holds a receiver that no call asks.
 pub struct Slot {
@@ -78,10 +77,9 @@ fn with_decoder(receiver: Polled, decoder: Decoder) -> Polled
 }
 
 // A refused open leaves the slot as it was.
-pub fn opened(slot: Slot, protocol: u32, rate: u32) -> Done
-    ensures { λ r. ⌜ r ≡ openedAt slot protocol rate ⌝ }
+fn opened_by(slot: Slot, made: PolledMade) -> Done
+    ensures { λ r. ⌜ r ≡ openedBy slot made ⌝ }
 {
-    let made = Polled::new(protocol, rate);
     let answer = made.answer;
     let receiver = made.receiver;
     let said = of_answer(answer);
@@ -89,6 +87,12 @@ pub fn opened(slot: Slot, protocol: u32, rate: u32) -> Done
         return held_by(said, receiver);
     }
     Done { said, slot }
+}
+
+pub fn opened(slot: Slot, protocol: u32, rate: u32) -> Done
+    ensures { λ r. ⌜ r ≡ openedAt slot protocol rate ⌝ }
+{
+    opened_by(slot, Polled::new(protocol, rate))
 }
 
 fn event(receiver: Polled, rising: bool, duration: u32) -> Done
