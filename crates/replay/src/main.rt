@@ -7,16 +7,18 @@ mod on_slots;
 mod on_spans;
 mod out;
 
+use calls::call_of;
 use calls::put_answer;
 use libc::STDIN_FILENO;
 use libc::STDOUT_FILENO;
-use line::Line;
-use on_slots::Answered;
 use on_slots::Slots;
+use on_slots::SlotsEnd;
 use on_slots::all_closed;
 use on_slots::answered;
-use on_slots::is_on_slot;
 use out::put;
+use words::Line;
+use words::fresh;
+use words::is_begun;
 
 // What is read and not yet used: a part of the lent buffer; and the byte read last.
 pub struct Input {
@@ -44,12 +46,13 @@ fn flushed(text: &[u8], at: usize, room: usize) -> usize {
     at
 }
 
-fn answer(text: &mut [u8], at: usize, line: Line, n: &[u64; 8], slots: Slots) -> Answered {
-    if is_on_slot(line, n) {
-        return answered(text, at, line.name, n, slots);
+fn answer(text: &mut [u8], at: usize, line: Line, n: &[u64; 8], slots: Slots) -> SlotsEnd {
+    let call = call_of(line, n);
+    if calls::OPEN <= call && call <= calls::IDLE {
+        return answered(text, at, call, n, slots);
     }
-    let next = put_answer(text, at, line, n);
-    Answered { at: next, slots }
+    let next = put_answer(text, at, call, n);
+    SlotsEnd { at: next, slots }
 }
 
 // The end of a line: its call is answered, and the next line begins.
@@ -59,7 +62,7 @@ fn line_ended(text: &mut [u8], at: usize, line: Line, n: &[u64; 8], slots: Slots
     let next = put(text, a.at, b'\n');
     State {
         at: flushed(text, next, 4096),
-        line: line::fresh(),
+        line: fresh(),
         slots: after,
     }
 }
@@ -115,7 +118,7 @@ fn next(buf: &mut [u8], input: Input) -> Input {
 fn read_all(text: &mut [u8], numbers: &mut [u64; 8], buf: &mut [u8]) -> State {
     let mut state = State {
         at: 0,
-        line: line::fresh(),
+        line: fresh(),
         slots: all_closed(),
     };
     let mut input = Input {
@@ -139,7 +142,7 @@ fn read_all(text: &mut [u8], numbers: &mut [u64; 8], buf: &mut [u8]) -> State {
 // Answers a last line that lacks its newline, and writes out what is left.
 fn finish(text: &mut [u8], state: State, numbers: &mut [u64; 8]) {
     let line = state.line;
-    if line::is_begun(line) {
+    if is_begun(line) {
         let after = fed(text, state, numbers, b'\n');
         flushed(text, after.at, 65537);
     } else {

@@ -1,24 +1,12 @@
 // The call on frames: encode PROTOCOL RATE ADDRESS COMMAND START TOGGLE ROOM.
-use crate::line::is_u32;
-use crate::line::low_8;
-use crate::line::low_32;
 use crate::out::put_next;
 use crate::out::put_said;
 use answers::of_encoded;
 use answers::of_kept;
 use frames::Encoded;
+use words::low_8;
+use words::low_32;
 ghost use Prim.Native.Nat.{_≤_};
-
-// The numbers fit their parameters, and the room is at most 100 places.
-pub fn is_encode(n: &[u64; 8]) -> bool {
-    is_u32(n[0])
-        && is_u32(n[1])
-        && n[2] <= 255
-        && n[3] <= 255
-        && n[4] <= 255
-        && n[5] <= 1
-        && n[6] <= 100
-}
 
 // What a place holds before the call.
 fn mark(place: usize) -> u32 {

@@ -1,8 +1,5 @@
 // The calls on slots: open, event, total, edge, command and reset on a decoder, polled, poll and idle on a polled receiver.
-use crate::line::Line;
-use crate::line::is_call;
-use crate::line::is_u32;
-use crate::line::low_32;
+use crate::calls;
 use crate::out::put_part;
 use crate::out::put_said;
 use answers::Said;
@@ -11,37 +8,11 @@ use slots::Done;
 use slots::Slot;
 use slots::asked;
 use slots::opened;
-
-// The names, their letters as digits of base 256.
-const OPEN: u64 = 0x6F70656E;
-
-const EVENT: u64 = 0x6576656E74;
-
-const TOTAL: u64 = 0x746F74616C;
-
-const EDGE: u64 = 0x65646765;
-
-const COMMAND: u64 = 0x636F6D6D616E64;
-
-const RESET: u64 = 0x7265736574;
-
-const POLLED: u64 = 0x706F6C6C6564;
-
-const POLL: u64 = 0x706F6C6C;
-
-const IDLE: u64 = 0x69646C65;
+use words::low_32;
 
 // Eight slots of decoders, then eight of polled receivers.
 pub struct Slots {
     pub slots: [Slot; 16],
-}
-
-// A call on a slot: its name, its place, and the numbers behind it.
-pub struct Call {
-    pub name: u64,
-    pub place: usize,
-    pub a: u32,
-    pub b: u32,
 }
 
 // What an edge answers before its report.
@@ -50,8 +21,14 @@ pub struct Head {
     pub command: Said,
 }
 
+// A slot after a call, and the place behind its answer.
+pub struct CallEnd {
+    pub at: usize,
+    pub slot: Slot,
+}
+
 // All slots after a call, and the place behind its answer.
-pub struct Answered {
+pub struct SlotsEnd {
     pub at: usize,
     pub slots: Slots,
 }
@@ -63,80 +40,33 @@ pub fn all_closed() -> Slots {
     }
 }
 
-// SLOT, a level and a number of 32 bits.
-fn is_edge(slot: u64, level: u64, duration: u64) -> bool {
-    slot <= 7 && level <= 1 && is_u32(duration)
-}
-
-// SLOT and two numbers of 32 bits.
-fn is_open(slot: u64, protocol: u64, rate: u64) -> bool {
-    slot <= 7 && is_u32(protocol) && is_u32(rate)
-}
-
-// SLOT, a level and a count.
-fn is_poll(slot: u64, level: u64, count: u64) -> bool {
-    slot <= 7 && level <= 1 && 1 <= count && count <= 1000000
-}
-
-fn is_on_decoder(line: Line, a: u64, b: u64, c: u64) -> bool {
-    let opens = is_call(line, OPEN, 3);
-    let edges = is_call(line, EVENT, 3) || is_call(line, TOTAL, 3) || is_call(line, EDGE, 3);
-    let others = is_call(line, COMMAND, 1) || is_call(line, RESET, 1);
-    (opens && is_open(a, b, c)) || (edges && is_edge(a, b, c)) || (others && a <= 7)
-}
-
-fn is_on_polled(line: Line, a: u64, b: u64, c: u64) -> bool {
-    let opens = is_call(line, POLLED, 3);
-    let polls = is_call(line, POLL, 3);
-    let idles = is_call(line, IDLE, 2);
-    (opens && is_open(a, b, c)) || (polls && is_poll(a, b, c)) || (idles && a <= 7 && is_u32(b))
-}
-
-// The line is a call on a slot.
-pub fn is_on_slot(line: Line, n: &[u64; 8]) -> bool {
-    is_on_decoder(line, n[0], n[1], n[2]) || is_on_polled(line, n[0], n[1], n[2])
-}
-
-// Where the first slot of the call's kind stands.
-fn base_of(name: u64) -> u64 {
-    if name == POLLED || name == POLL || name == IDLE {
-        8
-    } else {
-        0
-    }
-}
-
-// The number that a call ends in; a count stands where others have a level.
-fn last_of(name: u64, b: u64, c: u64) -> u64 {
-    if name == IDLE { b } else { c }
-}
-
-fn call_of(name: u64, n: &[u64; 8]) -> Call {
-    Call {
-        name,
-        place: (n[0] % 8 + base_of(name)) as usize,
-        a: low_32(n[1]),
-        b: low_32(last_of(name, n[1], n[2])),
-    }
+// Where the slot of a call stands.
+fn place_of(call: usize, slot: u64) -> usize {
+    let k = (slot % 8) as usize;
+    if call < calls::POLLED { k } else { k + 8 }
 }
 
 // An edge goes on as event_total.
-fn ask_of(name: u64) -> Ask {
-    match name {
-        EVENT => Ask::Event,
-        TOTAL | EDGE => Ask::Total,
-        RESET => Ask::Reset,
-        POLL => Ask::Poll,
-        IDLE => Ask::Idle,
+fn ask_of(call: usize) -> Ask {
+    match call {
+        calls::EVENT => Ask::Event,
+        calls::TOTAL => Ask::Total,
+        calls::EDGE => Ask::Total,
+        calls::RESET => Ask::Reset,
+        calls::POLL => Ask::Poll,
         _ => Ask::Command,
     }
 }
 
-fn on_slot(call: Call, slot: Slot) -> Done {
-    if call.name == OPEN || call.name == POLLED {
-        return opened(slot, call.a, call.b);
+// The numbers are those behind the slot's. That of idle stands where others have a level.
+fn on_slot(call: usize, slot: Slot, a: u32, b: u32) -> Done {
+    if call == calls::OPEN || call == calls::POLLED {
+        return opened(slot, a, b);
     }
-    asked(ask_of(call.name), slot, call.a == 1, call.b)
+    if call == calls::IDLE {
+        return asked(Ask::Idle, slot, false, a);
+    }
+    asked(ask_of(call), slot, a == 1, b)
 }
 
 // The status of an edge's step, and the command after it.
@@ -149,9 +79,10 @@ fn head_of(slot: Slot, rising: bool, duration: u32) -> Head {
     Head { status, command }
 }
 
-fn put_head(text: &mut [u8], at: usize, call: Call, slot: Slot) -> usize {
-    if call.name == EDGE && slot.is_open {
-        let head = head_of(slot, call.a == 1, call.b);
+// What comes before the report of an edge.
+fn put_head(text: &mut [u8], at: usize, call: usize, slot: Slot, a: u32, b: u32) -> usize {
+    if call == calls::EDGE && slot.is_open {
+        let head = head_of(slot, a == 1, b);
         let status = head.status;
         let command = head.command;
         let next = put_part(text, at, status);
@@ -160,19 +91,28 @@ fn put_head(text: &mut [u8], at: usize, call: Call, slot: Slot) -> usize {
     at
 }
 
-pub fn answered(text: &mut [u8], at: usize, name: u64, n: &[u64; 8], slots: Slots) -> Answered {
-    let call = call_of(name, n);
-    let k = call.place % 16;
+fn put_call(text: &mut [u8], at: usize, call: usize, n: &[u64; 8], slot: Slot) -> CallEnd {
+    let a = low_32(n[1]);
+    let b = low_32(n[2]);
+    let next = put_head(text, at, call, slot, a, b);
+    let done = on_slot(call, slot, a, b);
+    let said = done.said;
+    let after = done.slot;
+    CallEnd {
+        at: put_said(text, next, said),
+        slot: after,
+    }
+}
+
+pub fn answered(text: &mut [u8], at: usize, call: usize, n: &[u64; 8], slots: Slots) -> SlotsEnd {
+    let k = place_of(call, n[0]) % 16;
     let mut after = slots;
     let slot = after.slots[k];
-    let next = put_head(text, at, call, slot);
-    let done = on_slot(call, slot);
-    let said = done.said;
-    let next = put_said(text, next, said);
-    let left = done.slot;
+    let end = put_call(text, at, call, n, slot);
+    let left = end.slot;
     after.slots[k] = left;
-    Answered {
-        at: next,
+    SlotsEnd {
+        at: end.at,
         slots: after,
     }
 }

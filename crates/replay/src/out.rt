@@ -1,5 +1,7 @@
 // Text that gathers in a lent slice. Each function takes the place where its text starts, and answers the next one.
 use answers::Said;
+use words::first_letter;
+use words::other_letters;
 
 pub fn put(text: &mut [u8], at: usize, b: u8) -> usize {
     if at < text.len() {
@@ -33,22 +35,14 @@ fn put_letter(text: &mut [u8], at: usize, b: u8) -> usize {
     at
 }
 
-fn high_byte(x: u64) -> u8 {
-    (x / 0x100000000000000 % 256) as u8
-}
-
-fn low_bytes(x: u64) -> u64 {
-    x % 0x100000000000000 * 256
-}
-
 // The digits of base 256 as characters, the highest first.
 pub fn put_letters(text: &mut [u8], at: usize, word: u64) -> usize {
     let mut next = at;
     let mut rest = word;
     let mut left: u8 = 8;
     while left > 0 {
-        next = put_letter(text, next, high_byte(rest));
-        rest = low_bytes(rest);
+        next = put_letter(text, next, first_letter(rest));
+        rest = other_letters(rest);
         left -= 1;
     }
     next
