@@ -13,6 +13,7 @@ use Rattle.answers.proofs.of_found as of-found
 use Rattle.answers.proofs.of_encoded as of-encoded
 use Rattle.answers.proofs.of_kept as of-kept
 use Rattle.answers.proofs.is_taken as is-taken
+use Rattle.answers.proofs.is_nothing as is-nothing
 use Rattle.answers.proofs.not_open as not-open
 use Rattle.answers.proofs.not_understood as not-understood
 
@@ -49,3 +50,6 @@ module _ {M : Type 1} (𝓤 : URA M) (H : Heap 𝓤) (𝓜 : Model 𝓤 H) (𝓖
 
   not-understood-fixed : Fixed 𝓤 H (𝓖 .A) not-understood.ended (not-understood.clauses 𝓤 H (𝓖 .A) (𝓜 .mem) (𝓡 .run)) (𝓡 .run not-understood.Symbol.routine)
   not-understood-fixed = (not-understood.Met.met 𝓤 H 𝓜 𝓖 𝓡, λ κs a g h r s v w. both one one alike)
+
+  is-nothing-fixed : Fixed 𝓤 H (𝓖 .A) is-nothing.ended (is-nothing.clauses 𝓤 H (𝓖 .A) (𝓜 .mem) (𝓡 .run)) (𝓡 .run is-nothing.Symbol.routine)
+  is-nothing-fixed = (is-nothing.Met.met 𝓤 H 𝓜 𝓖 𝓡, λ κs a g h r s v w. both one one alike)

@@ -89,6 +89,12 @@ reportSaid (report.Command command) = commandSaid command
 reportSaid (report.Error fault) = faultSaid fault
 reportSaid (report.Refused number) = refusedSaid number
 
+abbrev pub isNothing : Report → Bool
+isNothing report.Nothing = true
+isNothing (report.Command command) = false
+isNothing (report.Error fault) = false
+isNothing (report.Refused number) = false
+
 abbrev pub isTaken : Answer → Bool
 isTaken answer.Taken = true
 isTaken (answer.Refused number) = false

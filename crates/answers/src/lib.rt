@@ -13,7 +13,7 @@ use spans::Answer;
 use spans::Found;
 ghost use mathlib.Core.Path.{_≡_};
 ghost use Rattle.commands.specs.Rc5.{bitOf};
-ghost use Rattle.answers.specs.Answers.{textOf, withOf, refusedSaid, faultSaid, statusSaid, valuesSaid, necSaid, rc5Said, rc6Said, sbpSaid, denonSaid, commandSaid, reportSaid, answerSaid, foundSaid, encodedSaid, keptSaid, notOpen, notUnderstood, isTaken};
+ghost use Rattle.answers.specs.Answers.{textOf, withOf, refusedSaid, faultSaid, statusSaid, valuesSaid, necSaid, rc5Said, rc6Said, sbpSaid, denonSaid, commandSaid, reportSaid, answerSaid, foundSaid, encodedSaid, keptSaid, notOpen, notUnderstood, isTaken, isNothing};
 
 // The characters are digits of base 256: the first eight, and the rest.
 pub struct Said {
@@ -219,4 +219,15 @@ pub fn not_understood() -> Said
     ensures { λ r. ⌜ r ≡ notUnderstood ⌝ }
 {
     text(0x6E6F7420756E6465, 0x7273746F6F64)
+}
+
+pub fn is_nothing(report: Report) -> bool
+    ensures { λ r. ⌜ r ≡ isNothing report ⌝ }
+{
+    match report {
+        Report::Nothing => true,
+        Report::Command(_) => false,
+        Report::Error(_) => false,
+        Report::Refused(_) => false,
+    }
 }

@@ -1,9 +1,9 @@
--- `tour::words::number_of` is safe and ends: the measure is what is left of s. Assumes nothing.
+-- `tour::given::number_of` is safe and ends: the measure is what is left of s. Assumes nothing.
 use Prim.Native.Nat.{_-_}
 use lib.ListN.{length}
 use borrow.Author.Needs.{needs}
-use Rattle.tour.proofs.words.number_of.Statement.{statement}
-use Rattle.tour.proofs.words.number_of.Tie as tie
+use Rattle.tour.proofs.given.number_of.Statement.{statement}
+use Rattle.tour.proofs.given.number_of.Tie as tie
 
 abbrev Inv-loop : tie.InvT-loop
 Inv-loop s n₀ i₀ n i = Unit {0}

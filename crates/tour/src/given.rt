@@ -54,11 +54,3 @@ pub fn is(i: usize, word: &[u8]) -> bool {
     let n = os::arg(i, &mut s);
     check::same(&s[..n], word)
 }
-
-pub fn to_u32(x: u64) -> u32 {
-    (x % 0x100000000) as u32
-}
-
-pub fn to_u8(x: u64) -> u8 {
-    (x % 256) as u8
-}
