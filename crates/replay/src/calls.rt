@@ -5,7 +5,6 @@ use crate::on_spans::put_spans_call;
 use crate::out::put_said;
 use answers::not_understood;
 use words::Line;
-use words::low_32;
 
 pub const SPANS: usize = 0;
 
@@ -118,10 +117,10 @@ pub fn call_of(line: Line, n: &[u64; 8]) -> usize {
 
 pub fn put_answer(text: &mut [u8], at: usize, call: usize, n: &[u64; 8]) -> usize {
     if call == SPANS {
-        return put_spans_call(text, at, low_32(n[0]), low_32(n[1]));
+        return put_spans_call(text, at, n[0], n[1]);
     }
     if call == LOOKUP {
-        return put_lookup_call(text, at, low_32(n[0]), low_32(n[1]), n[2]);
+        return put_lookup_call(text, at, n[0], n[1], n[2]);
     }
     if call == ENCODE {
         return put_encode_call(text, at, n);

@@ -2,23 +2,17 @@
 use crate::calls;
 use crate::out::put_part;
 use crate::out::put_said;
-use answers::Said;
 use slots::Ask;
 use slots::Done;
 use slots::Slot;
 use slots::asked;
+use slots::head_of;
 use slots::opened;
 use words::low_32;
 
 // Eight slots of decoders, then eight of polled receivers.
 pub struct Slots {
     pub slots: [Slot; 16],
-}
-
-// What an edge answers before its report.
-pub struct Head {
-    pub status: Said,
-    pub command: Said,
 }
 
 // A slot after a call, and the place behind its answer.
@@ -67,16 +61,6 @@ fn on_slot(call: usize, slot: Slot, a: u32, b: u32) -> Done {
         return asked(Ask::Idle, slot, false, a);
     }
     asked(ask_of(call), slot, a == 1, b)
-}
-
-// The status of an edge's step, and the command after it.
-fn head_of(slot: Slot, rising: bool, duration: u32) -> Head {
-    let stepped = asked(Ask::Event, slot, rising, duration);
-    let status = stepped.said;
-    let after = stepped.slot;
-    let told = asked(Ask::Command, after, rising, duration);
-    let command = told.said;
-    Head { status, command }
 }
 
 // What comes before the report of an edge.

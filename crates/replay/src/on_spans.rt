@@ -7,6 +7,7 @@ use answers::is_taken;
 use answers::of_answer;
 use answers::of_found;
 use spans::Spans;
+use words::low_32;
 
 fn put_span(text: &mut [u8], at: usize, low: u32, high: u32) -> usize {
     let at = put_number(text, at, low as u64);
@@ -31,8 +32,8 @@ fn put_spans(text: &mut [u8], at: usize, spans: Spans) -> usize {
     next
 }
 
-pub fn put_spans_call(text: &mut [u8], at: usize, protocol: u32, rate: u32) -> usize {
-    let built = spans::spans_of(protocol, rate);
+pub fn put_spans_call(text: &mut [u8], at: usize, protocol: u64, rate: u64) -> usize {
+    let built = spans::spans_of(low_32(protocol), low_32(rate));
     let answer = built.answer;
     let s = built.spans;
     if is_taken(answer) {
@@ -41,8 +42,8 @@ pub fn put_spans_call(text: &mut [u8], at: usize, protocol: u32, rate: u32) -> u
     put_said(text, at, of_answer(answer))
 }
 
-fn lookup_said(protocol: u32, rate: u32, d: u64) -> Said {
-    let built = spans::spans_of(protocol, rate);
+fn lookup_said(protocol: u64, rate: u64, d: u64) -> Said {
+    let built = spans::spans_of(low_32(protocol), low_32(rate));
     let answer = built.answer;
     let s = built.spans;
     if is_taken(answer) {
@@ -51,6 +52,6 @@ fn lookup_said(protocol: u32, rate: u32, d: u64) -> Said {
     of_answer(answer)
 }
 
-pub fn put_lookup_call(text: &mut [u8], at: usize, protocol: u32, rate: u32, d: u64) -> usize {
+pub fn put_lookup_call(text: &mut [u8], at: usize, protocol: u64, rate: u64, d: u64) -> usize {
     put_said(text, at, lookup_said(protocol, rate, d))
 }

@@ -3,10 +3,13 @@ use answers::Said;
 use words::first_letter;
 use words::other_letters;
 
+// A character; 0 is none.
 pub fn put(text: &mut [u8], at: usize, b: u8) -> usize {
-    if at < text.len() {
-        text[at] = b;
-        return at + 1;
+    if 0 < b {
+        if at < text.len() {
+            text[at] = b;
+            return at + 1;
+        }
     }
     at
 }
@@ -27,21 +30,13 @@ pub fn put_number(text: &mut [u8], at: usize, x: u64) -> usize {
     put_all(text, at, &digits[..n])
 }
 
-// A digit of base 256, where it is not 0.
-fn put_letter(text: &mut [u8], at: usize, b: u8) -> usize {
-    if 0 < b {
-        return put(text, at, b);
-    }
-    at
-}
-
 // The digits of base 256 as characters, the highest first.
 pub fn put_letters(text: &mut [u8], at: usize, word: u64) -> usize {
     let mut next = at;
     let mut rest = word;
     let mut left: u8 = 8;
     while left > 0 {
-        next = put_letter(text, next, first_letter(rest));
+        next = put(text, next, first_letter(rest));
         rest = other_letters(rest);
         left -= 1;
     }

@@ -13,6 +13,7 @@ use Rattle.answers.specs.Answers.{word, textOf, statusSaid, reportSaid, answerS
 use Rattle.answers.specs.declared.Said.{Said}
 use Rattle.slots.specs.declared.Slot.{Slot}
 use Rattle.slots.specs.declared.Done.{Done}
+use Rattle.slots.specs.declared.Head.{Head}
 use Rattle.slots.specs.declared.PollRun.{PollRun}
 use Rattle.slots.specs.declared.Ask.{Ask}
 use Rattle.slots.specs.declared.Ask.the-variants as ask
@@ -94,3 +95,9 @@ askedIn ask.Idle p level number = idleAt p number
 abbrev pub askedAt : Ask → Slot → Bool → ℕ → Done
 askedAt ask slot level number =
     cond (slot .is_open) (askedIn ask (slot .receiver) level number) (record { said = notOpen; slot = slot })
+
+-- what an edge answers before its report: the status of the step, and the command after it
+abbrev pub headOf : Slot → Bool → ℕ → Head
+headOf slot rising duration =
+    let stepped = askedAt ask.Event slot rising duration in
+    record { status = stepped .said; command = askedAt ask.Command (stepped .slot) rising duration .said }

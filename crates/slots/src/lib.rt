@@ -12,7 +12,7 @@ use polled::poll_through;
 use receiver::decoder::Decoder;
 use reports::Report;
 ghost use mathlib.Core.Path.{_≡_};
-ghost use Rattle.slots.specs.Slots.{closedSlot, heldBy, withDecoder, openedBy, openedAt, eventAt, totalAt, commandAt, resetAt, firstOf, polledAgain, runs, pollsAt, idleAt, askedIn, askedAt};
+ghost use Rattle.slots.specs.Slots.{closedSlot, heldBy, withDecoder, openedBy, openedAt, eventAt, totalAt, commandAt, resetAt, firstOf, polledAgain, runs, pollsAt, idleAt, askedIn, askedAt, headOf};
 
 // A closed slot holds a receiver that no call asks.
 pub struct Slot {
@@ -24,6 +24,12 @@ pub struct Slot {
 pub struct Done {
     pub said: Said,
     pub slot: Slot,
+}
+
+// What an edge answers before its report.
+pub struct Head {
+    pub status: Said,
+    pub command: Said,
 }
 
 // The calls on an open slot.
@@ -219,4 +225,16 @@ pub fn asked(ask: Ask, slot: Slot, level: bool, number: u32) -> Done
         said: not_open(),
         slot,
     }
+}
+
+// The status of an edge's step, and the command after it.
+pub fn head_of(slot: Slot, rising: bool, duration: u32) -> Head
+    ensures { λ r. ⌜ r ≡ headOf slot rising duration ⌝ }
+{
+    let stepped = asked(Ask::Event, slot, rising, duration);
+    let status = stepped.said;
+    let after = stepped.slot;
+    let told = asked(Ask::Command, after, rising, duration);
+    let command = told.said;
+    Head { status, command }
 }
