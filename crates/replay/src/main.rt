@@ -2,27 +2,37 @@
 // The calls and their answers are listed in README.md, "The call language".
 mod calls;
 mod line;
-mod on_decoders;
 mod on_frames;
-mod on_polls;
+mod on_slots;
 mod on_spans;
 mod out;
 
-use calls::Held;
-use calls::answered;
+use calls::call_of;
+use calls::put_answer;
 use libc::STDIN_FILENO;
 use libc::STDOUT_FILENO;
-use line::Line;
+use on_slots::Slots;
+use on_slots::SlotsEnd;
+use on_slots::all_closed;
+use on_slots::answered;
+use out::put;
+use words::Line;
+use words::fresh;
+use words::is_begun;
 
-// All that is kept between lines and between reads.
-pub struct State {
-    pub line: Line,
-    pub held: Held,
+// What is read and not yet used: a part of the lent buffer; and the byte read last.
+pub struct Input {
+    pub at: usize,
+    pub end: usize,
+    pub byte: u8,
+    pub is_end: bool,
 }
 
-pub struct Turn {
-    pub state: State,
-    pub more: bool,
+// All that is kept between bytes: the place in the text that gathers the answers, the line and the slots.
+pub struct State {
+    pub at: usize,
+    pub line: Line,
+    pub slots: Slots,
 }
 
 // Writes out what has gathered, once little room is left for the next answer.
@@ -36,90 +46,114 @@ fn flushed(text: &[u8], at: usize, room: usize) -> usize {
     at
 }
 
+fn answer(text: &mut [u8], at: usize, line: Line, n: &[u64; 8], slots: Slots) -> SlotsEnd {
+    let call = call_of(line, n);
+    if calls::OPEN <= call && call <= calls::IDLE {
+        return answered(text, at, call, n, slots);
+    }
+    let next = put_answer(text, at, call, n);
+    SlotsEnd { at: next, slots }
+}
+
 // The end of a line: its call is answered, and the next line begins.
-fn line_ended(line: Line, held: Held, numbers: &[u64; 8], text: &mut [u8]) -> State {
-    let a = answered(text, line, numbers, held);
-    let after = a.held;
-    let at = flushed(text, a.at, 4096);
+fn line_ended(text: &mut [u8], at: usize, line: Line, n: &[u64; 8], slots: Slots) -> State {
+    let a = answer(text, at, line, n, slots);
+    let after = a.slots;
+    let next = put(text, a.at, b'\n');
     State {
-        line: line::fresh(at),
-        held: after,
+        at: flushed(text, next, 4096),
+        line: fresh(),
+        slots: after,
     }
 }
 
 // One byte of input.
-fn fed(state: State, numbers: &mut [u64; 8], b: u8, text: &mut [u8]) -> State {
+fn fed(text: &mut [u8], state: State, numbers: &mut [u64; 8], b: u8) -> State {
     let line = state.line;
-    let held = state.held;
+    let slots = state.slots;
     if b == b'\n' {
-        return line_ended(line, held, numbers, text);
+        return line_ended(text, state.at, line, numbers, slots);
     }
     State {
+        at: state.at,
         line: line::fed(line, numbers, b),
-        held,
+        slots,
     }
 }
 
-fn fed_all(s: &[u8], state: State, numbers: &mut [u64; 8], text: &mut [u8]) -> State {
-    let mut after = state;
-    let mut i = 0;
-    while i < s.len() {
-        after = fed(after, numbers, s[i], text);
-        i += 1;
+// Reads anew, and takes the first byte.
+fn refilled(buf: &mut [u8]) -> Input {
+    let got = libc::read(STDIN_FILENO, buf);
+    let end = io::count(got, buf);
+    if 0 < end && 0 < buf.len() {
+        return Input {
+            at: 1,
+            end,
+            byte: buf[0],
+            is_end: false,
+        };
     }
-    after
-}
-
-fn read_some(state: State, numbers: &mut [u64; 8], text: &mut [u8]) -> Turn {
-    let mut buf = io::large_buffer();
-    let got = libc::read(STDIN_FILENO, &mut buf);
-    if got <= 0 {
-        return Turn { state, more: false };
-    }
-    let n = io::count(got, &buf);
-    let after = fed_all(&buf[..n], state, numbers, text);
-    Turn {
-        state: after,
-        more: true,
+    Input {
+        at: 0,
+        end: 0,
+        byte: 0,
+        is_end: true,
     }
 }
 
-// A proved loop has to end, and nothing says that the input does: so the turns are counted down.
-fn read_all(numbers: &mut [u64; 8], text: &mut [u8]) -> State {
+fn next(buf: &mut [u8], input: Input) -> Input {
+    let at = input.at;
+    if at < input.end && at < buf.len() {
+        return Input {
+            at: at + 1,
+            end: input.end,
+            byte: buf[at],
+            is_end: false,
+        };
+    }
+    refilled(buf)
+}
+
+// A proved loop has to end, and nothing says that the input does: so the bytes are counted down.
+fn read_all(text: &mut [u8], numbers: &mut [u64; 8], buf: &mut [u8]) -> State {
     let mut state = State {
-        line: line::fresh(0),
-        held: Held {
-            slots: on_decoders::all_closed(),
-            polls: on_polls::all_closed(),
-        },
+        at: 0,
+        line: fresh(),
+        slots: all_closed(),
     };
-    let mut turns = u64::MAX;
-    while turns > 0 {
-        let t = read_some(state, numbers, text);
-        state = t.state;
-        if !t.more {
+    let mut input = Input {
+        at: 0,
+        end: 0,
+        byte: 0,
+        is_end: false,
+    };
+    let mut left = u64::MAX;
+    while left > 0 {
+        input = next(buf, input);
+        if input.is_end {
             return state;
         }
-        turns -= 1;
+        state = fed(text, state, numbers, input.byte);
+        left -= 1;
     }
     state
 }
 
 // Answers a last line that lacks its newline, and writes out what is left.
-fn finish(state: State, numbers: &[u64; 8], text: &mut [u8]) {
+fn finish(text: &mut [u8], state: State, numbers: &mut [u64; 8]) {
     let line = state.line;
-    let held = state.held;
-    if line.begun {
-        let a = answered(text, line, numbers, held);
-        flushed(text, a.at, 65537);
+    if is_begun(line) {
+        let after = fed(text, state, numbers, b'\n');
+        flushed(text, after.at, 65537);
     } else {
-        flushed(text, line.at, 65537);
+        flushed(text, state.at, 65537);
     }
 }
 
 fn main() {
     let mut numbers = [0u64; 8];
     let mut text = io::large_buffer();
-    let state = read_all(&mut numbers, &mut text);
-    finish(state, &numbers, &mut text);
+    let mut buf = io::large_buffer();
+    let state = read_all(&mut text, &mut numbers, &mut buf);
+    finish(&mut text, state, &mut numbers);
 }

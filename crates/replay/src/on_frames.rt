@@ -1,20 +1,12 @@
 // The call on frames: encode PROTOCOL RATE ADDRESS COMMAND START TOGGLE ROOM.
-use crate::line::is_u32;
-use crate::line::low_32;
-use crate::out::put_with;
+use crate::out::put_next;
+use crate::out::put_said;
+use answers::of_encoded;
+use answers::of_kept;
 use frames::Encoded;
+use words::low_8;
+use words::low_32;
 ghost use Prim.Native.Nat.{_≤_};
-
-// The numbers fit their parameters, and the room is at most 100 places.
-pub fn is_encode(n: &[u64; 8]) -> bool {
-    is_u32(n[0])
-        && is_u32(n[1])
-        && n[2] <= 255
-        && n[3] <= 255
-        && n[4] <= 255
-        && n[5] <= 1
-        && n[6] <= 100
-}
 
 // What a place holds before the call.
 fn mark(place: usize) -> u32 {
@@ -47,54 +39,52 @@ fn kept(lent: &[u32], from: usize) -> usize {
     count
 }
 
-// The duration at a place, where it is one of the frame's.
-fn put_duration(text: &mut [u8], at: usize, duration: u32, is_written: bool) -> usize {
-    if is_written {
-        return put_with(text, at, b" ", duration as u64);
-    }
-    at
-}
-
 fn put_durations(text: &mut [u8], at: usize, lent: &[u32], count: usize) -> usize {
     let mut next = at;
     let mut i: usize = 0;
     while i < lent.len() {
-        next = put_duration(text, next, lent[i], i < count);
+        next = put_next(text, next, i < count, wide(lent[i]));
         i += 1;
     }
     next
 }
 
-fn put_encoded(text: &mut [u8], at: usize, encoded: Encoded, lent: &[u32]) -> usize {
+fn wide(x: u32) -> u64 {
+    x as u64
+}
+
+// How many durations were written.
+fn written(encoded: Encoded) -> usize {
     match encoded {
-        Encoded::Wrote(count) => {
-            let next = put_with(text, at, b"wrote ", count as u64);
-            let next = put_durations(text, next, lent, count);
-            put_with(text, next, b" kept ", kept(lent, count) as u64)
-        }
-        Encoded::Refused(number) => {
-            let next = put_with(text, at, b"refused ", number as u64);
-            put_with(text, next, b" kept ", kept(lent, 0) as u64)
-        }
-        Encoded::Short(needed) => {
-            let next = put_with(text, at, b"refused 3 needs ", needed as u64);
-            put_with(text, next, b" kept ", kept(lent, 0) as u64)
-        }
+        Encoded::Wrote(count) => count,
+        Encoded::Refused(_) => 0,
+        Encoded::Short(_) => 0,
     }
 }
 
+fn put_encoded(text: &mut [u8], at: usize, encoded: Encoded, lent: &[u32]) -> usize {
+    let count = written(encoded);
+    let at = put_said(text, at, of_encoded(encoded));
+    let at = put_durations(text, at, lent, count);
+    put_said(text, at, of_kept(kept(lent, count)))
+}
+
 // Encodes into a lent slice of so many places.
-fn put_frame(text: &mut [u8], at: usize, n: &[u64; 8], lent: &mut [u32]) -> usize {
-    put_marks(lent);
-    let encoded = receiver::encoder::encode(
+fn encode(n: &[u64; 8], lent: &mut [u32]) -> Encoded {
+    receiver::encoder::encode(
         low_32(n[0]),
         low_32(n[1]),
-        (n[2] % 256) as u8,
-        (n[3] % 256) as u8,
-        (n[4] % 256) as u8,
+        low_8(n[2]),
+        low_8(n[3]),
+        low_8(n[4]),
         n[5] == 1,
         lent,
-    );
+    )
+}
+
+fn put_frame(text: &mut [u8], at: usize, n: &[u64; 8], lent: &mut [u32]) -> usize {
+    put_marks(lent);
+    let encoded = encode(n, lent);
     put_encoded(text, at, encoded, lent)
 }
 

@@ -1,52 +1,57 @@
 // The calls on spans: spans PROTOCOL RATE, and lookup PROTOCOL RATE DURATION.
-use crate::out::put_all;
-use crate::out::put_gap;
+use crate::out::put_letters;
 use crate::out::put_number;
-use crate::out::put_with;
-use spans::Answer;
-use spans::Found;
+use crate::out::put_said;
+use answers::Said;
+use answers::is_taken;
+use answers::of_answer;
+use answers::of_found;
 use spans::Spans;
+use words::low_32;
 
 fn put_span(text: &mut [u8], at: usize, low: u32, high: u32) -> usize {
     let at = put_number(text, at, low as u64);
-    let at = put_all(text, at, b"..");
+    // two dots
+    let at = put_letters(text, at, 0x2E2E);
     put_number(text, at, high as u64)
+}
+
+// A blank before each place but the first.
+fn gap(place: usize) -> u64 {
+    if 0 < place { 0x20 } else { 0 }
 }
 
 fn put_spans(text: &mut [u8], at: usize, spans: Spans) -> usize {
     let mut next = at;
     let mut place: usize = 0;
     while place < 8 {
-        next = put_gap(text, next, place);
+        next = put_letters(text, next, gap(place));
         next = put_span(text, next, spans.low[place], spans.high[place]);
         place += 1;
     }
     next
 }
 
-fn put_found(text: &mut [u8], at: usize, found: Found) -> usize {
-    match found {
-        Found::At(place) => put_with(text, at, b"place ", place as u64),
-        Found::Nothing => put_all(text, at, b"none"),
-    }
-}
-
-pub fn put_spans_call(text: &mut [u8], at: usize, protocol: u32, rate: u32) -> usize {
-    let built = spans::spans_of(protocol, rate);
+pub fn put_spans_call(text: &mut [u8], at: usize, protocol: u64, rate: u64) -> usize {
+    let built = spans::spans_of(low_32(protocol), low_32(rate));
     let answer = built.answer;
     let s = built.spans;
-    match answer {
-        Answer::Taken => put_spans(text, at, s),
-        Answer::Refused(number) => put_with(text, at, b"refused ", number as u64),
+    if is_taken(answer) {
+        return put_spans(text, at, s);
     }
+    put_said(text, at, of_answer(answer))
 }
 
-pub fn put_lookup_call(text: &mut [u8], at: usize, protocol: u32, rate: u32, d: u64) -> usize {
-    let built = spans::spans_of(protocol, rate);
+fn lookup_said(protocol: u64, rate: u64, d: u64) -> Said {
+    let built = spans::spans_of(low_32(protocol), low_32(rate));
     let answer = built.answer;
     let s = built.spans;
-    match answer {
-        Answer::Taken => put_found(text, at, spans::lookup(s, d)),
-        Answer::Refused(number) => put_with(text, at, b"refused ", number as u64),
+    if is_taken(answer) {
+        return of_found(spans::lookup(s, d));
     }
+    of_answer(answer)
+}
+
+pub fn put_lookup_call(text: &mut [u8], at: usize, protocol: u64, rate: u64, d: u64) -> usize {
+    put_said(text, at, lookup_said(protocol, rate, d))
 }

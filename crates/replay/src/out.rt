@@ -1,13 +1,20 @@
 // Text that gathers in a lent slice. Each function takes the place where its text starts, and answers the next one.
+use answers::Said;
+use words::first_letter;
+use words::other_letters;
+
+// A character; 0 is none.
 pub fn put(text: &mut [u8], at: usize, b: u8) -> usize {
-    if at < text.len() {
-        text[at] = b;
-        return at + 1;
+    if 0 < b {
+        if at < text.len() {
+            text[at] = b;
+            return at + 1;
+        }
     }
     at
 }
 
-pub fn put_all(text: &mut [u8], at: usize, s: &[u8]) -> usize {
+fn put_all(text: &mut [u8], at: usize, s: &[u8]) -> usize {
     let mut next = at;
     let mut i = 0;
     while i < s.len() {
@@ -23,16 +30,48 @@ pub fn put_number(text: &mut [u8], at: usize, x: u64) -> usize {
     put_all(text, at, &digits[..n])
 }
 
-// A word and a number.
-pub fn put_with(text: &mut [u8], at: usize, word: &[u8], x: u64) -> usize {
-    let next = put_all(text, at, word);
-    put_number(text, next, x)
+// The digits of base 256 as characters, the highest first.
+pub fn put_letters(text: &mut [u8], at: usize, word: u64) -> usize {
+    let mut next = at;
+    let mut rest = word;
+    let mut left: u8 = 8;
+    while left > 0 {
+        next = put(text, next, first_letter(rest));
+        rest = other_letters(rest);
+        left -= 1;
+    }
+    next
 }
 
-// A blank before each place but the first.
-pub fn put_gap(text: &mut [u8], at: usize, place: usize) -> usize {
-    if 0 < place {
-        return put(text, at, b' ');
+// A number behind a blank, where it is one of those said.
+pub fn put_next(text: &mut [u8], at: usize, is_said: bool, x: u64) -> usize {
+    if is_said {
+        let next = put(text, at, b' ');
+        return put_number(text, next, x);
     }
     at
+}
+
+fn put_numbers(text: &mut [u8], at: usize, numbers: &[u64; 4], count: usize) -> usize {
+    let mut next = at;
+    let mut i: usize = 0;
+    while i < 4 {
+        next = put_next(text, next, i < count, numbers[i]);
+        i += 1;
+    }
+    next
+}
+
+pub fn put_said(text: &mut [u8], at: usize, said: Said) -> usize {
+    let next = put_letters(text, at, said.head);
+    let next = put_letters(text, next, said.tail);
+    let numbers = said.numbers;
+    put_numbers(text, next, &numbers, said.count)
+}
+
+// A part of an answer that others follow.
+pub fn put_part(text: &mut [u8], at: usize, said: Said) -> usize {
+    let next = put_said(text, at, said);
+    // a comma and a blank
+    put_letters(text, next, 0x2C20)
 }

@@ -1,10 +1,10 @@
 // Edges in order to a decoder, and a line for each that is to be shown. The spans are lent and the memory goes on.
-use crate::report_text::is_nothing;
 use crate::report_text::print_report;
 use crate::text::print;
 use crate::text::print_gap;
 use crate::text::print_newline;
 use crate::text::print_right;
+use answers::is_nothing;
 use receiver::decoder::Decoder;
 use receiver::decoder::Memory;
 use receiver::decoder::total_in;
@@ -32,12 +32,6 @@ fn print_line(i: usize, rising: bool, duration: u32, report: Report) {
 }
 
 // All edges are shown, or those that report something.
-fn show_edge(all: bool, i: usize, rising: bool, duration: u32, report: Report) {
-    if all || !is_nothing(report) {
-        print_line(i, rising, duration, report);
-    }
-}
-
 fn edge<'a>(
     low: &'a [u32; 8],
     high: &'a [u32; 8],
@@ -49,8 +43,10 @@ fn edge<'a>(
 ) -> Memory {
     let total = total_in(low, high, memory, rising, duration);
     let report = total.report;
-    show_edge(all, i, rising, duration, report);
     let after = total.memory;
+    if all || !is_nothing(report) {
+        print_line(i, rising, duration, report);
+    }
     after
 }
 

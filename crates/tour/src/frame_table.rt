@@ -1,8 +1,9 @@
 // The frame of a command, a line for each duration, and what a fresh decoder of its protocol reports there.
 use crate::edges;
+use crate::report_text::print_said;
 use crate::text::print;
 use crate::text::print_number;
-use crate::text::print_refused;
+use answers::of_encoded;
 use frames::Encoded;
 
 fn print_frame(protocol: u32, rate: u32, places: &[u32], count: usize) {
@@ -14,16 +15,11 @@ fn print_frame(protocol: u32, rate: u32, places: &[u32], count: usize) {
     }
 }
 
-fn print_short(length: usize) {
-    print(b"refused 3 needs ");
-    print_number(length as u64);
-}
-
 fn print_encoded(protocol: u32, rate: u32, places: &[u32], encoded: Encoded) {
     match encoded {
         Encoded::Wrote(count) => print_frame(protocol, rate, places, count),
-        Encoded::Refused(number) => print_refused(number),
-        Encoded::Short(length) => print_short(length),
+        Encoded::Refused(number) => print_said(of_encoded(Encoded::Refused(number))),
+        Encoded::Short(length) => print_said(of_encoded(Encoded::Short(length))),
     }
 }
 

@@ -1,19 +1,19 @@
 // What `./run` shows. `./run help` lists the words that it takes.
 mod edges;
 mod frame_table;
+mod given;
 mod parts;
 mod report_text;
 mod send_table;
 mod span_table;
 mod text;
-mod words;
 
+use given::number;
 use send_table::least_silence;
 use send_table::most_wrong;
 use text::print;
-use words::number;
-use words::to_u8;
-use words::to_u32;
+use words::low_8;
+use words::low_32;
 
 fn help() {
     print(
@@ -35,31 +35,31 @@ fn usage() {
 }
 
 fn run_spans(count: usize) {
-    let rate = number(2, count, 1000000, words::LAST);
-    let duration = number(3, count, 0, words::LAST);
-    if count <= 4 && rate | duration <= words::LAST {
-        span_table::show(to_u32(rate), duration, count == 4);
+    let rate = number(2, count, 1000000, given::LAST);
+    let duration = number(3, count, 0, given::LAST);
+    if count <= 4 && rate | duration <= given::LAST {
+        span_table::show(low_32(rate), duration, count == 4);
     } else {
         usage();
     }
 }
 
 fn run_frame(count: usize) {
-    let protocol = number(2, count, 0, words::LAST);
-    let rate = number(3, count, 0, words::LAST);
+    let protocol = number(2, count, 0, given::LAST);
+    let rate = number(3, count, 0, given::LAST);
     let addr = number(4, count, 0, 255);
     let cmd = number(5, count, 0, 255);
     let start = number(6, count, 3, 255);
     let toggle = number(7, count, 0, 1);
     let all = protocol | rate | addr | cmd | start | toggle;
     let mut room = [0u32; 67];
-    if (count == 6 || count == 8) && all <= words::LAST {
+    if (count == 6 || count == 8) && all <= given::LAST {
         frame_table::show(
-            to_u32(protocol),
-            to_u32(rate),
-            to_u8(addr),
-            to_u8(cmd),
-            to_u8(start),
+            low_32(protocol),
+            low_32(rate),
+            low_8(addr),
+            low_8(cmd),
+            low_8(start),
             toggle == 1,
             &mut room,
         );
@@ -69,23 +69,23 @@ fn run_frame(count: usize) {
 }
 
 fn run_send(count: usize) {
-    let protocol = number(2, count, 0, words::LAST);
+    let protocol = number(2, count, 0, given::LAST);
     let addr = number(3, count, 0, 255);
     let cmd = number(4, count, 0, 255);
     let start = number(5, count, 3, 255);
     let toggle = number(6, count, 0, 1);
-    let silence = number(7, count, least_silence(protocol), words::LAST);
-    let wrong = number(8, count, most_wrong(protocol), words::LAST);
+    let silence = number(7, count, least_silence(protocol), given::LAST);
+    let wrong = number(8, count, most_wrong(protocol), given::LAST);
     let all = protocol | addr | cmd | start | toggle | silence | wrong;
-    if (count == 5 || count == 7 || count == 9) && all <= words::LAST {
+    if (count == 5 || count == 7 || count == 9) && all <= given::LAST {
         send_table::show(
-            to_u32(protocol),
-            to_u8(addr),
-            to_u8(cmd),
-            to_u8(start),
+            low_32(protocol),
+            low_8(addr),
+            low_8(cmd),
+            low_8(start),
             toggle == 1,
-            to_u32(silence),
-            to_u32(wrong),
+            low_32(silence),
+            low_32(wrong),
         );
     } else {
         usage();
@@ -93,13 +93,13 @@ fn run_send(count: usize) {
 }
 
 fn run_word(count: usize) {
-    if words::is(1, b"spans") {
+    if given::is(1, b"spans") {
         run_spans(count);
-    } else if words::is(1, b"frame") {
+    } else if given::is(1, b"frame") {
         run_frame(count);
-    } else if words::is(1, b"send") {
+    } else if given::is(1, b"send") {
         run_send(count);
-    } else if words::is(1, b"help") {
+    } else if given::is(1, b"help") {
         help();
     } else {
         usage();

@@ -1,12 +1,11 @@
 // A frame sent after noise and a silence, with a wrong at each duration: what was reported.
 use crate::edges;
-use crate::report_text::is_nothing;
 use crate::report_text::print_report;
 use crate::text::print;
 use crate::text::print_gap;
 use crate::text::print_newline;
-use crate::text::print_refused;
 use crate::text::print_right;
+use answers::is_nothing;
 use promises::send::Sent;
 use promises::send::send;
 use receiver::decoder::Decoder;
@@ -136,22 +135,11 @@ pub fn print_head() {
     );
 }
 
-fn first_of(
-    protocol: u32,
-    addr: u8,
-    cmd: u8,
-    start: u8,
-    toggle: bool,
-    silence: u32,
-    wrong: u32,
-) -> Report {
-    let sent = sent_of(protocol, addr, cmd, start, toggle, silence, wrong);
-    sent.first
-}
-
 pub fn show(protocol: u32, addr: u8, cmd: u8, start: u8, toggle: bool, silence: u32, wrong: u32) {
-    match first_of(protocol, addr, cmd, start, toggle, silence, wrong) {
-        Report::Refused(number) => print_refused(number),
+    let sent = sent_of(protocol, addr, cmd, start, toggle, silence, wrong);
+    let first = sent.first;
+    match first {
+        Report::Refused(number) => print_report(Report::Refused(number)),
         _ => {
             print_head();
             print_line(protocol, addr, cmd, start, toggle, silence, wrong);

@@ -1,8 +1,10 @@
 // The spans of all five protocols at a rate, and the place of a duration.
+use crate::report_text::print_said;
 use crate::text;
 use crate::text::print;
 use crate::text::print_newline;
 use crate::text::print_number;
+use answers::of_answer;
 use spans::Answer;
 use spans::Found;
 
@@ -83,6 +85,6 @@ pub fn show(rate: u32, duration: u64, is_given: bool) {
                 print_places(rate, duration);
             }
         }
-        Answer::Refused(number) => text::print_refused(number),
+        Answer::Refused(number) => print_said(of_answer(Answer::Refused(number))),
     }
 }

@@ -43,8 +43,3 @@ pub fn print_right(column: usize, x: u64) {
     print_blanks(column, width(x));
     print_number(x);
 }
-
-pub fn print_refused(number: u32) {
-    print(b"refused ");
-    print_number(number as u64);
-}

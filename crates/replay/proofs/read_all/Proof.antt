@@ -1,15 +1,21 @@
--- `replay::read_all` is safe and ends: the measure is the turns that are left. Assumes nothing.
-use mathlib.Core.Path.{_≡_}
+-- `replay::read_all` is safe and ends: the measure is the bytes that are left. Assumes nothing.
+use mathlib.Core.Path.{_≡_, refl}
 use lib.ListN.{length}
 use borrow.Author.Needs.{needs}
 use Rattle.replay.proofs.read_all.Statement.{statement}
 use Rattle.replay.proofs.read_all.Tie as tie
 
 abbrev Inv-loop : tie.InvT-loop
-Inv-loop numbers₀ text₀ state₀ turns₀ numbers text state turns = length text ≡ length text₀
+Inv-loop text₀ numbers₀ buf₀ state₀ input₀ left₀ text numbers buf state input left = (length text ≡ length text₀) × (length buf ≡ length buf₀)
 
 abbrev μ-loop : tie.MeasureT-loop
-μ-loop numbers₀ text₀ state₀ turns₀ numbers text state turns = turns
+μ-loop text₀ numbers₀ buf₀ state₀ input₀ left₀ text numbers buf state input left = left
+
+loop-holds : tie.Need-loop-holds Inv-loop μ-loop
+loop-holds c = (refl, refl)
+
+loop-again : tie.Need-loop-again Inv-loop μ-loop
+loop-again c = (search needs, search needs)
 
 pub read-all-spec : {M : Type 1} → statement M
 read-all-spec =
@@ -19,13 +25,15 @@ read-all-spec =
     μ-loop
     (λ c κs. search needs)
     (λ c κs. search needs)
+    loop-holds
     (λ c κs. search needs)
     (λ c. search needs)
+    (λ c. search needs)
+    (λ c. search needs)
     (λ c κs. search needs)
     (λ c. search needs)
     (λ c. search needs)
-    (λ c. search needs)
-    (λ c. search needs)
+    loop-again
     (λ c. search needs)
     (λ c. search needs)
     (λ c. search needs))

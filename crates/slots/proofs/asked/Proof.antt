@@ -1,0 +1,13 @@
+-- `slots::asked` meets its contract: its test picks the definition's branch. Assumes nothing.
+use borrow.Author.Needs.{needs}
+use Rattle.slots.proofs.asked.Statement.{statement}
+use Rattle.slots.proofs.asked.Tie as tie
+
+returns : tie.Need-returns
+returns c = simp (c .before .before .if1 .taken, c .asked-in .ensures)
+
+returns-2 : tie.Need-returns-2
+returns-2 c = simp (c .before .if1 .left, c .not-open .ensures)
+
+pub asked-spec : {M : Type 1} → statement M
+asked-spec = tie.close (tie.spec (λ c κs. search needs) returns (λ c κs. search needs) returns-2)

@@ -1,0 +1,10 @@
+-- `slots::closed` meets its contract, from those of what it calls. Assumes nothing.
+use borrow.Author.Needs.{needs}
+use Rattle.slots.proofs.closed.Statement.{statement}
+use Rattle.slots.proofs.closed.Tie as tie
+
+returns : tie.Need-returns
+returns c = simp (c .before .new .ensures)
+
+pub closed-spec : {M : Type 1} → statement M
+closed-spec = tie.close (tie.spec (λ c κs. search needs) returns)

@@ -1,0 +1,103 @@
+-- What the calls of README's "The call language" on a slot do and answer.
+use Prim.Native.Nat.{ℕ, zero, suc}
+use mathlib.Core.Bool.{Bool, true, false, cond}
+use mathlib.Core.List.{List, [], _∷_}
+use Rattle.reports.specs.declared.Report.{Report}
+use Rattle.reports.specs.declared.Report.the-variants as report
+use Rattle.receiver.specs.Decoder.{eventOf, eventTotal, commandIn, resetIn}
+use Rattle.receiver.specs.declared.decoder.Decoder.{Decoder}
+use Rattle.polled.specs.Polled.{polledAt, pollOf, idled}
+use Rattle.polled.specs.declared.Polled.{Polled}
+use Rattle.polled.specs.declared.PolledMade.{PolledMade}
+use Rattle.answers.specs.Answers.{word, textOf, statusSaid, reportSaid, answerSaid, isTaken, notOpen}
+use Rattle.answers.specs.declared.Said.{Said}
+use Rattle.slots.specs.declared.Slot.{Slot}
+use Rattle.slots.specs.declared.Done.{Done}
+use Rattle.slots.specs.declared.Head.{Head}
+use Rattle.slots.specs.declared.PollRun.{PollRun}
+use Rattle.slots.specs.declared.Ask.{Ask}
+use Rattle.slots.specs.declared.Ask.the-variants as ask
+
+-- a slot before it is opened; no call reads its receiver
+abbrev pub closedSlot : Slot
+closedSlot = record { is_open = false; receiver = polledAt 1 1000000 .receiver }
+
+-- an open slot that holds a receiver, and what is answered
+abbrev pub heldBy : Said → Polled → Done
+heldBy said receiver = record { said = said; slot = record { is_open = true; receiver = receiver } }
+
+abbrev pub withDecoder : Polled → Decoder → Polled
+withDecoder p decoder = record { decoder = decoder; clock = p .clock; edge = p .edge; level = p .level }
+
+-- `open` and `polled`: a fresh receiver; refused, the slot as it was
+abbrev pub openedBy : Slot → PolledMade → Done
+openedBy slot made =
+    cond (isTaken (made .answer)) (heldBy (answerSaid (made .answer)) (made .receiver))
+    (record { said = answerSaid (made .answer); slot = slot })
+
+abbrev pub openedAt : Slot → ℕ → ℕ → Done
+openedAt slot protocol rate = openedBy slot (polledAt protocol rate)
+
+abbrev pub eventAt : Polled → Bool → ℕ → Done
+eventAt p rising duration =
+    let e = eventOf (p .decoder) rising duration in
+    heldBy (statusSaid (e .status)) (withDecoder p (e .decoder))
+
+abbrev pub totalAt : Polled → Bool → ℕ → Done
+totalAt p rising duration =
+    let t = eventTotal (p .decoder) rising duration in
+    heldBy (reportSaid (t .report)) (withDecoder p (t .decoder))
+
+abbrev pub commandAt : Polled → Done
+commandAt p = heldBy (reportSaid (commandIn (p .decoder))) p
+
+abbrev pub resetAt : Polled → Done
+resetAt p = heldBy (textOf (word ("r" ∷ "e" ∷ "s" ∷ "e" ∷ "t" ∷ [])) 0) (withDecoder p (resetIn (p .decoder)))
+
+abbrev pub firstOf : Report → Report → Report
+firstOf report.Nothing next = next
+firstOf (report.Command command) next = report.Command command
+firstOf (report.Error fault) next = report.Error fault
+firstOf (report.Refused number) next = report.Refused number
+
+abbrev pub polledAgain : PollRun → Bool → PollRun
+polledAgain run level =
+    let total = pollOf (run .receiver) level in
+    record { report = firstOf (run .report) (total .report); receiver = total .receiver }
+
+-- so many polls of a level
+abbrev pub runs : ℕ → PollRun → Bool → PollRun
+runs zero run level = run
+runs (suc n) run level = runs n (polledAgain run level) level
+
+abbrev pub started : Polled → PollRun
+started p = record { report = report.Nothing; receiver = p }
+
+-- the first report that is not nothing, or nothing
+abbrev pub pollsAt : Polled → Bool → ℕ → Done
+pollsAt p level count =
+    let run = runs count (started p) level in
+    heldBy (reportSaid (run .report)) (run .receiver)
+
+-- so many polls of an unchanged level
+abbrev pub idleAt : Polled → ℕ → Done
+idleAt p count = heldBy (textOf (word ("i" ∷ "d" ∷ "l" ∷ "e" ∷ [])) 0) (idled p count)
+
+-- a call on an open slot; the number is a duration or a count
+abbrev pub askedIn : Ask → Polled → Bool → ℕ → Done
+askedIn ask.Event p level number = eventAt p level number
+askedIn ask.Total p level number = totalAt p level number
+askedIn ask.Command p level number = commandAt p
+askedIn ask.Reset p level number = resetAt p
+askedIn ask.Poll p level number = pollsAt p level number
+askedIn ask.Idle p level number = idleAt p number
+
+abbrev pub askedAt : Ask → Slot → Bool → ℕ → Done
+askedAt ask slot level number =
+    cond (slot .is_open) (askedIn ask (slot .receiver) level number) (record { said = notOpen; slot = slot })
+
+-- what an edge answers before its report: the status of the step, and the command after it
+abbrev pub headOf : Slot → Bool → ℕ → Head
+headOf slot rising duration =
+    let stepped = askedAt ask.Event slot rising duration in
+    record { status = stepped .said; command = askedAt ask.Command (stepped .slot) rising duration .said }

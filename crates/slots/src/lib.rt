@@ -1,0 +1,240 @@
+// A slot that holds a polled receiver or only its decoder, and what the calls on it do and answer.
+use answers::Said;
+use answers::is_taken;
+use answers::not_open;
+use answers::of_answer;
+use answers::of_report;
+use answers::of_status;
+use answers::text;
+use polled::Polled;
+use polled::PolledMade;
+use polled::poll_through;
+use receiver::decoder::Decoder;
+use reports::Report;
+ghost use mathlib.Core.Path.{_≡_};
+ghost use Rattle.slots.specs.Slots.{closedSlot, heldBy, withDecoder, openedBy, openedAt, eventAt, totalAt, commandAt, resetAt, firstOf, polledAgain, runs, pollsAt, idleAt, askedIn, askedAt, headOf};
+
+// A closed slot holds a receiver that no call asks.
+pub struct Slot {
+    pub is_open: bool,
+    pub receiver: Polled,
+}
+
+// A slot after a call, and what the call answers.
+pub struct Done {
+    pub said: Said,
+    pub slot: Slot,
+}
+
+// What an edge answers before its report.
+pub struct Head {
+    pub status: Said,
+    pub command: Said,
+}
+
+// The calls on an open slot.
+pub enum Ask {
+    Event,
+    Total,
+    Command,
+    Reset,
+    Poll,
+    Idle,
+}
+
+// The first report of some polls that is not nothing, and the receiver after them.
+pub struct PollRun {
+    pub report: Report,
+    pub receiver: Polled,
+}
+
+pub fn closed() -> Slot
+    ensures { λ r. ⌜ r ≡ closedSlot ⌝ }
+{
+    let made = Polled::new(1, 1000000);
+    let receiver = made.receiver;
+    Slot {
+        is_open: false,
+        receiver,
+    }
+}
+
+fn held_by(said: Said, receiver: Polled) -> Done
+    ensures { λ r. ⌜ r ≡ heldBy said receiver ⌝ }
+{
+    Done {
+        said,
+        slot: Slot {
+            is_open: true,
+            receiver,
+        },
+    }
+}
+
+fn with_decoder(receiver: Polled, decoder: Decoder) -> Polled
+    ensures { λ r. ⌜ r ≡ withDecoder receiver decoder ⌝ }
+{
+    Polled {
+        decoder,
+        clock: receiver.clock,
+        edge: receiver.edge,
+        level: receiver.level,
+    }
+}
+
+// A refused open leaves the slot as it was.
+fn opened_by(slot: Slot, made: PolledMade) -> Done
+    ensures { λ r. ⌜ r ≡ openedBy slot made ⌝ }
+{
+    let answer = made.answer;
+    let receiver = made.receiver;
+    let said = of_answer(answer);
+    if is_taken(answer) {
+        return held_by(said, receiver);
+    }
+    Done { said, slot }
+}
+
+pub fn opened(slot: Slot, protocol: u32, rate: u32) -> Done
+    ensures { λ r. ⌜ r ≡ openedAt slot protocol rate ⌝ }
+{
+    opened_by(slot, Polled::new(protocol, rate))
+}
+
+fn event(receiver: Polled, rising: bool, duration: u32) -> Done
+    ensures { λ r. ⌜ r ≡ eventAt receiver rising duration ⌝ }
+{
+    let decoder = receiver.decoder;
+    let e = decoder.event(rising, duration);
+    let status = e.status;
+    let after = e.decoder;
+    held_by(of_status(status), with_decoder(receiver, after))
+}
+
+fn total(receiver: Polled, rising: bool, duration: u32) -> Done
+    ensures { λ r. ⌜ r ≡ totalAt receiver rising duration ⌝ }
+{
+    let decoder = receiver.decoder;
+    let t = decoder.event_total(rising, duration);
+    let report = t.report;
+    let after = t.decoder;
+    held_by(of_report(report), with_decoder(receiver, after))
+}
+
+fn command(receiver: Polled) -> Done
+    ensures { λ r. ⌜ r ≡ commandAt receiver ⌝ }
+{
+    let decoder = receiver.decoder;
+    held_by(of_report(decoder.command()), receiver)
+}
+
+fn reset(receiver: Polled) -> Done
+    ensures { λ r. ⌜ r ≡ resetAt receiver ⌝ }
+{
+    let decoder = receiver.decoder;
+    // reset
+    held_by(
+        text(0x7265736574, 0),
+        with_decoder(receiver, decoder.reset()),
+    )
+}
+
+fn first_of(first: Report, next: Report) -> Report
+    ensures { λ r. ⌜ r ≡ firstOf first next ⌝ }
+{
+    match first {
+        Report::Nothing => next,
+        Report::Command(c) => Report::Command(c),
+        Report::Error(f) => Report::Error(f),
+        Report::Refused(number) => Report::Refused(number),
+    }
+}
+
+// One more poll of a run.
+fn polled_again(run: PollRun, level: bool) -> PollRun
+    ensures { λ r. ⌜ r ≡ polledAgain run level ⌝ }
+{
+    let before = run.receiver;
+    let first = run.report;
+    let total = poll_through(before, level);
+    let report = total.report;
+    let receiver = total.receiver;
+    PollRun {
+        report: first_of(first, report),
+        receiver,
+    }
+}
+
+fn run_of(start: PollRun, level: bool, count: u32) -> PollRun
+    ensures { λ r. ⌜ r ≡ runs count start level ⌝ }
+{
+    let mut run = start;
+    let mut left = count;
+    while left > 0 {
+        run = polled_again(run, level);
+        left -= 1;
+    }
+    run
+}
+
+fn polls(receiver: Polled, level: bool, count: u32) -> Done
+    ensures { λ r. ⌜ r ≡ pollsAt receiver level count ⌝ }
+{
+    let start = PollRun {
+        report: Report::Nothing,
+        receiver,
+    };
+    let run = run_of(start, level, count);
+    let report = run.report;
+    let after = run.receiver;
+    held_by(of_report(report), after)
+}
+
+// Polls of an unchanged level move only the clock: it is put forward at once.
+fn idle(receiver: Polled, count: u32) -> Done
+    ensures { λ r. ⌜ r ≡ idleAt receiver count ⌝ }
+{
+    let mut after = receiver;
+    after.clock = std::num::wrapping_add_u32(receiver.clock, count);
+    // idle
+    held_by(text(0x69646C65, 0), after)
+}
+
+fn asked_in(ask: Ask, receiver: Polled, level: bool, number: u32) -> Done
+    ensures { λ r. ⌜ r ≡ askedIn ask receiver level number ⌝ }
+{
+    match ask {
+        Ask::Event => event(receiver, level, number),
+        Ask::Total => total(receiver, level, number),
+        Ask::Command => command(receiver),
+        Ask::Reset => reset(receiver),
+        Ask::Poll => polls(receiver, level, number),
+        Ask::Idle => idle(receiver, number),
+    }
+}
+
+// The number is a duration, or a count of polls.
+pub fn asked(ask: Ask, slot: Slot, level: bool, number: u32) -> Done
+    ensures { λ r. ⌜ r ≡ askedAt ask slot level number ⌝ }
+{
+    if slot.is_open {
+        let receiver = slot.receiver;
+        return asked_in(ask, receiver, level, number);
+    }
+    Done {
+        said: not_open(),
+        slot,
+    }
+}
+
+// The status of an edge's step, and the command after it.
+pub fn head_of(slot: Slot, rising: bool, duration: u32) -> Head
+    ensures { λ r. ⌜ r ≡ headOf slot rising duration ⌝ }
+{
+    let stepped = asked(Ask::Event, slot, rising, duration);
+    let status = stepped.said;
+    let after = stepped.slot;
+    let told = asked(Ask::Command, after, rising, duration);
+    let command = told.said;
+    Head { status, command }
+}

@@ -1,0 +1,56 @@
+// The words that the program is given, as numbers of 32 bits.
+
+// The largest number; whatever is above it is none.
+pub const LAST: u64 = 0xFFFFFFFF;
+
+const NONE: u64 = 0x100000000;
+
+// One more digit of a number.
+fn with_digit(value: u64, b: u8) -> u64 {
+    if value <= LAST && b'0' <= b {
+        let digit = (b - b'0') as u64;
+        if digit <= 9 {
+            return value * 10 + digit;
+        }
+    }
+    NONE
+}
+
+// The number that decimal digits spell.
+fn number_of(s: &[u8]) -> u64 {
+    let mut value: u64 = 0;
+    let mut i = 0;
+    while i < s.len() {
+        value = with_digit(value, s[i]);
+        i += 1;
+    }
+    value
+}
+
+// The number at a place of the words.
+fn number_at(i: usize) -> u64 {
+    let mut s = io::buffer();
+    let n = os::arg(i, &mut s);
+    if n == 0 {
+        return NONE;
+    }
+    number_of(&s[..n])
+}
+
+// The number at a place, or what stands for it where it is left out; none above the largest that it may be.
+pub fn number(i: usize, count: usize, left_out: u64, most: u64) -> u64 {
+    let mut value = left_out;
+    if i < count {
+        value = number_at(i);
+    }
+    if value <= most {
+        return value;
+    }
+    NONE
+}
+
+pub fn is(i: usize, word: &[u8]) -> bool {
+    let mut s = io::buffer();
+    let n = os::arg(i, &mut s);
+    check::same(&s[..n], word)
+}

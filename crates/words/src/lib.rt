@@ -1,0 +1,103 @@
+// Words of text and decimal numbers, a character at a time: what the programs that read and print calls share.
+ghost use mathlib.Core.Path.{_≡_};
+ghost use Prim.Native.Nat.{_+_, _*_, _/_, _%_};
+ghost use Rattle.words.specs.Words.{freshLine, brokenLine, letterOn, isBegun, firstLetter, otherLetters, isRoom, digitOn};
+
+// A line of input as it is read: a name, and numbers behind single blanks.
+pub struct Line {
+    // the name's letters, as digits of base 256
+    pub name: u64,
+    // the numbers begun; 9 where the line is not in the language
+    pub count: usize,
+    // the name, or the number begun last, has a character
+    pub whole: bool,
+}
+
+pub fn fresh() -> Line
+    ensures { λ r. ⌜ r ≡ freshLine ⌝ }
+{
+    Line {
+        name: 0,
+        count: 0,
+        whole: false,
+    }
+}
+
+// Whatever follows, the line stays so: no number is begun behind the eighth.
+pub fn broken() -> Line
+    ensures { λ r. ⌜ r ≡ brokenLine ⌝ }
+{
+    Line {
+        name: 0,
+        count: 9,
+        whole: false,
+    }
+}
+
+// A name has eight letters at most.
+pub fn with_letter(line: Line, b: u8) -> Line
+    ensures { λ r. ⌜ r ≡ letterOn line b ⌝ }
+{
+    if line.name < 0x100000000000000 {
+        return Line {
+            name: line.name * 256 + b as u64,
+            count: 0,
+            whole: true,
+        };
+    }
+    broken()
+}
+
+// A byte was read.
+pub fn is_begun(line: Line) -> bool
+    ensures { λ r. ⌜ r ≡ isBegun line ⌝ }
+{
+    if 0 < line.name {
+        return true;
+    }
+    0 < line.count
+}
+
+// A number takes one more digit and stays below 2^64.
+pub fn is_room(x: u64, d: u8) -> bool
+    ensures { λ r. ⌜ r ≡ isRoom x d ⌝ }
+{
+    x <= (0xFFFFFFFFFFFFFFFF - d as u64) / 10
+}
+
+// A number with one more digit, where there is room.
+pub fn with_digit(x: u64, d: u8) -> u64
+    ensures { λ r. ⌜ r ≡ digitOn x d ⌝ }
+{
+    if x <= (0xFFFFFFFFFFFFFFFF - d as u64) / 10 {
+        return x * 10 + d as u64;
+    }
+    x
+}
+
+// The first of eight letters, which are digits of base 256.
+pub fn first_letter(word: u64) -> u8
+    ensures { λ r. ⌜ r ≡ firstLetter word ⌝ }
+{
+    (word / 0x100000000000000 % 256) as u8
+}
+
+// The letters behind the first.
+pub fn other_letters(word: u64) -> u64
+    ensures { λ r. ⌜ r ≡ otherLetters word ⌝ }
+{
+    word % 0x100000000000000 * 256
+}
+
+// The low bits of a number, which are the number where it fits.
+pub fn low_32(x: u64) -> u32
+    ensures { λ r. ⌜ r ≡ x % 4294967296 ⌝ }
+{
+    (x % 0x100000000) as u32
+}
+
+pub fn low_8(x: u64) -> u8
+    ensures { λ r. ⌜ r ≡ x % 256 ⌝ }
+{
+    (x % 256) as u8
+}
