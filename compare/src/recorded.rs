@@ -36,14 +36,23 @@ pub fn write_scenes(out: &mut impl Write) -> io::Result<()> {
 /// Calls on no slot first, by subject; then the scenes.
 fn parts() -> Vec<Part> {
     let mut parts = vec![
-        ("spans_and_their_ends", lines(PROTOCOLS.into_iter().flat_map(at_rates))),
+        (
+            "spans_and_their_ends",
+            lines(PROTOCOLS.into_iter().flat_map(at_rates)),
+        ),
         ("durations_of_document_01", lines(document_numbers())),
-        ("durations_at_32_and_64_bits", lines(PROTOCOLS.into_iter().flat_map(extremes))),
+        (
+            "durations_at_32_and_64_bits",
+            lines(PROTOCOLS.into_iter().flat_map(extremes)),
+        ),
         ("refusals_2_and_1_in_their_order", lines(refusals())),
         ("frames", lines(recorded_frames::calls())),
         ("lines_that_are_no_call", not_understood()),
         ("leading_zeros", leading_zeros()),
-        ("a_call_behind_them", vec![b"lookup 5 1000000 5000".to_vec()]),
+        (
+            "a_call_behind_them",
+            vec![b"lookup 5 1000000 5000".to_vec()],
+        ),
     ];
     let scenes = recorded_scenes::scenes().into_iter();
     parts.extend(scenes.map(|(name, scene)| (name, scene.lines)));
@@ -51,7 +60,10 @@ fn parts() -> Vec<Part> {
 }
 
 fn lines(calls: impl IntoIterator<Item = Call>) -> Vec<Vec<u8>> {
-    calls.into_iter().map(|call| call.to_string().into_bytes()).collect()
+    calls
+        .into_iter()
+        .map(|call| call.to_string().into_bytes())
+        .collect()
 }
 
 /// Spans at a few rates, and the durations at their ends at some of them.

@@ -16,7 +16,7 @@ use crate::tour_send::{self, Send};
 /// The rate of the tour, 1 MHz.
 pub const RATE: u32 = 1_000_000;
 
-/// Of a longer word tour knows no more than that it is no number.
+/// A longer word is no number to tour.
 pub const LONGEST_WORD: usize = 4096;
 
 const OPENING: &str = "\

@@ -9,6 +9,7 @@ mod out;
 
 use calls::call_of;
 use calls::put_answer;
+use libc::STDERR_FILENO;
 use libc::STDIN_FILENO;
 use libc::STDOUT_FILENO;
 use on_slots::Slots;
@@ -35,12 +36,14 @@ pub struct State {
     pub slots: Slots,
 }
 
-// Writes out what has gathered, once little room is left for the next answer.
+// Writes out what has gathered, once little room is left for the next answer. Where the output takes no more, the place is past the text from then on.
 fn flushed(text: &[u8], at: usize, room: usize) -> usize {
     if at <= text.len() {
         if text.len() - at < room {
-            io::write_all(STDOUT_FILENO, &text[..at]);
-            return 0;
+            if io::write_all(STDOUT_FILENO, &text[..at]) {
+                return 0;
+            }
+            return usize::MAX;
         }
     }
     at
@@ -114,7 +117,7 @@ fn next(buf: &mut [u8], input: Input) -> Input {
     refilled(buf)
 }
 
-// A proved loop has to end, and nothing says that the input does: so the bytes are counted down.
+// To the end of the input, or until the output takes no more. A proved loop has to end, and nothing says that the input does: so the bytes are counted down.
 fn read_all(text: &mut [u8], numbers: &mut [u64; 8], buf: &mut [u8]) -> State {
     let mut state = State {
         at: 0,
@@ -134,19 +137,29 @@ fn read_all(text: &mut [u8], numbers: &mut [u64; 8], buf: &mut [u8]) -> State {
             return state;
         }
         state = fed(text, state, numbers, input.byte);
+        if text.len() < state.at {
+            return state;
+        }
         left -= 1;
     }
     state
 }
 
-// Answers a last line that lacks its newline, and writes out what is left.
-fn finish(text: &mut [u8], state: State, numbers: &mut [u64; 8]) {
+// Answers a last line that lacks its newline.
+fn last_answered(text: &mut [u8], state: State, numbers: &mut [u64; 8]) -> usize {
     let line = state.line;
     if is_begun(line) {
         let after = fed(text, state, numbers, b'\n');
-        flushed(text, after.at, 65537);
-    } else {
-        flushed(text, state.at, 65537);
+        return after.at;
+    }
+    state.at
+}
+
+// Writes out what is left, and says so where answers are lost.
+fn finish(text: &mut [u8], state: State, numbers: &mut [u64; 8]) {
+    let at = last_answered(text, state, numbers);
+    if text.len() < flushed(text, at, 65537) {
+        io::write_all(STDERR_FILENO, b"replay: the output takes no more\n");
     }
 }
 

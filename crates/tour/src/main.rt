@@ -26,7 +26,8 @@ fn help() {
 ./run send PROTOCOL ADDRESS COMMAND [START TOGGLE [SILENCE WRONG]]
     at 1 MHz, after noise: the frame behind the silence, two durations too long by the wrong, two too short,
     and so on; what is heard of it. SILENCE and WRONG are at the bound of what is promised where they are left out
-PROTOCOL is 1 for NEC, 2 for RC5, 3 for RC6. START is 3 and TOGGLE 0 where they are left out.",
+PROTOCOL is 1 for NEC, 2 for RC5, 3 for RC6. START is 3 and TOGGLE 0 where they are left out.
+A number is decimal digits, below 2^32.",
     );
 }
 
