@@ -33,6 +33,9 @@ read-all-spec =
     (λ c κs. search needs)
     (λ c. search needs)
     (λ c. search needs)
+    (λ c. search needs)
+    (λ c. search needs)
+    (λ c. search needs)
     loop-again
     (λ c. search needs)
     (λ c. search needs)
