@@ -4,10 +4,10 @@ use Rattle.answers.proofs.of_answer.Statement.{statement}
 use Rattle.answers.proofs.of_answer.Tie as tie
 
 returns : tie.Need-returns
-returns c = cc
+returns c = simp (c .text .ensures, c .before .enum-told .given .1)
 
 returns-2 : tie.Need-returns-2
-returns-2 c = cc
+returns-2 c = simp (c .of-refused .ensures, c .before .before .answer .given .1)
 
 pub of-answer-spec : {M : Type 1} → statement M
 of-answer-spec =

@@ -4,10 +4,10 @@ use Rattle.answers.proofs.of_fault.Statement.{statement}
 use Rattle.answers.proofs.of_fault.Tie as tie
 
 returns : tie.Need-returns
-returns c = cc
+returns c = simp (c .text .ensures, c .before .enum-told .given .1)
 
 returns-2 : tie.Need-returns-2
-returns-2 c = cc
+returns-2 c = simp (c .text2 .ensures, c .before .enum-told2 .given .1)
 
 pub of-fault-spec : {M : Type 1} → statement M
 of-fault-spec =

@@ -4,10 +4,10 @@ use Rattle.answers.proofs.of_found.Statement.{statement}
 use Rattle.answers.proofs.of_found.Tie as tie
 
 returns : tie.Need-returns
-returns c = cc
+returns c = simp (c .with .ensures, c .before .before .found .given .1)
 
 returns-2 : tie.Need-returns-2
-returns-2 c = cc
+returns-2 c = simp (c .text .ensures, c .before .enum-told .given .1)
 
 pub of-found-spec : {M : Type 1} → statement M
 of-found-spec =

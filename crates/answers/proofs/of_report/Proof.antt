@@ -4,10 +4,10 @@ use Rattle.answers.proofs.of_report.Statement.{statement}
 use Rattle.answers.proofs.of_report.Tie as tie
 
 returns : tie.Need-returns
-returns c = cc
+returns c = simp (c .text .ensures, c .before .enum-told .given .1)
 
 returns-4 : tie.Need-returns-4
-returns-4 c = cc
+returns-4 c = simp (c .of-refused .ensures, c .before .before .report3 .given .1)
 
 pub of-report-spec : {M : Type 1} → statement M
 of-report-spec =
