@@ -1,17 +1,22 @@
 // Reads calls, one to a line, from standard input and prints the answer to each, a line.
 // The calls and their answers are listed in README.md, "The call language".
+mod calls;
+mod line;
+mod on_frames;
+mod on_slots;
+mod on_spans;
+mod out;
+
+use calls::call_of;
+use calls::put_answer;
 use libc::STDERR_FILENO;
 use libc::STDIN_FILENO;
 use libc::STDOUT_FILENO;
-use replay_calls::calls;
-use replay_calls::calls::call_of;
-use replay_calls::line;
-use replay_slots::on_slots::Slots;
-use replay_slots::on_slots::SlotsEnd;
-use replay_slots::on_slots::all_closed;
-use replay_slots::on_slots::answered;
-use replay_slots::without_slots::put_answer;
-use replay_text::out::put;
+use on_slots::Slots;
+use on_slots::SlotsEnd;
+use on_slots::all_closed;
+use on_slots::answered;
+use out::put;
 use words::Line;
 use words::fresh;
 use words::is_begun;

@@ -1,15 +1,17 @@
 // What `./run` shows. `./run help` lists the words that it takes.
+mod edges;
+mod frame_table;
+mod given;
 mod parts;
+mod report_text;
+mod send_table;
+mod span_table;
+mod text;
 
-use tour_send::send_table;
-use tour_send::send_table::least_silence;
-use tour_send::send_table::most_wrong;
-use tour_tables::frame_table;
-use tour_tables::given;
-use tour_tables::given::number;
-use tour_tables::span_table;
-use tour_tables::text;
-use tour_tables::text::print;
+use given::number;
+use send_table::least_silence;
+use send_table::most_wrong;
+use text::print;
 use words::low_8;
 use words::low_32;
 

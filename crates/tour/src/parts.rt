@@ -1,15 +1,15 @@
 // The tour, part by part.
+use crate::edges;
+use crate::frame_table;
+use crate::report_text::print_report;
+use crate::send_table::print_head;
+use crate::send_table::print_line;
+use crate::text::print;
 use nec::decoder::NecMemory;
 use nec::decoder::NecState;
 use receiver::decoder::Decoder;
 use receiver::decoder::Memory;
 use reports::Report;
-use tour_send::send_table::print_head;
-use tour_send::send_table::print_line;
-use tour_tables::edges;
-use tour_tables::frame_table;
-use tour_tables::report_text::print_report;
-use tour_tables::text::print;
 
 fn show_frame() {
     print(
