@@ -7,9 +7,9 @@ use Prim.Native.Nat.{ℕ, _+_, _≤_, _<_}
 use native.Mathlib.Numerals.{add-one}
 use lib.ListN.{length, getD, drop, drop-of-length-le}
 use lib.Seq.{drop-cons}
-use Rattle.reports.specs.Run.{Edge, edge, runReports}
+use Rattle.reports.specs.Run.{Edge, edge, runReports, alternating}
 use Rattle.reports.specs.declared.Report.{Report}
-use Rattle.bench.specs.Bench.{added, addedAll, alternating}
+use Rattle.bench.specs.Bench.{added, addedAll}
 
 module _ {D : Type 0} (report : D → Edge → Report) (after : D → Edge → D) where
   -- what the sum comes to over the durations from a place on

@@ -1,6 +1,6 @@
 -- What bench/ measures: the number that the reports of a run of edges come to.
 use Prim.Native.Nat.{ℕ, _+_, _*_, _%_, _^_}
-use mathlib.Core.Bool.{Bool, true, not, cond}
+use mathlib.Core.Bool.{Bool, true, cond}
 use mathlib.Core.List.{List, [], _∷_}
 use Rattle.commands.specs.declared.Command.{Command}
 use Rattle.commands.specs.declared.Command.the-variants as command
@@ -8,7 +8,7 @@ use Rattle.commands.specs.declared.nec.NecCommand.{NecCommand}
 use Rattle.commands.specs.declared.rc5.Rc5Command.{Rc5Command}
 use Rattle.commands.specs.declared.rc6.Rc6Command.{Rc6Command}
 use Rattle.commands.specs.declared.sbp.SbpCommand.{SbpCommand}
-use Rattle.reports.specs.Run.{Edge, edge}
+use Rattle.reports.specs.Run.{alternating}
 use Rattle.reports.specs.declared.Fault.{Fault}
 use Rattle.reports.specs.declared.Fault.the-variants.{Address, Data}
 use Rattle.reports.specs.declared.Report.{Report}
@@ -63,11 +63,6 @@ added sum (report.Refused number) = plus sum number
 unfoldable pub addedAll : ℕ → List Report → ℕ
 addedAll sum [] = sum
 addedAll sum (report ∷ reports) = addedAll (added sum report) reports
-
--- durations in alternating edges
-unfoldable pub alternating : Bool → List ℕ → List Edge
-alternating rising [] = []
-alternating rising (duration ∷ durations) = edge rising duration ∷ alternating (not rising) durations
 
 abbrev pub necSum : ℕ → List ℕ → ℕ
 necSum rate durations = addedAll 0 (nec.reportsOf (nec.newAt rate .decoder) (alternating true durations))

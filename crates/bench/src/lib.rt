@@ -7,7 +7,6 @@ use commands::rc5::Rc5Command;
 use commands::rc6::Rc6Command;
 use commands::sbp::SbpCommand;
 use denon::decoder::DenonDecoder;
-use frames::Encoded;
 use nec::decoder::NecDecoder;
 use rc5::decoder::Rc5Decoder;
 use rc6::decoder::Rc6Decoder;
@@ -184,16 +183,6 @@ pub extern "C" fn bench_denon(durations: &[u32], rate: u32) -> u64
     sum
 }
 
-fn encoded_length(encoded: Encoded) -> usize
-    ensures { λ r. ⌜ r ≡ encodedLength encoded ⌝ }
-{
-    match encoded {
-        Encoded::Wrote(count) => count,
-        Encoded::Refused(_) => 0,
-        Encoded::Short(needed) => needed,
-    }
-}
-
 #[no_mangle]
 pub extern "C" fn bench_encode_nec(
     addr: u8,
@@ -203,7 +192,7 @@ pub extern "C" fn bench_encode_nec(
     rate: u32,
     frame: &mut [u32],
 ) -> usize
-    ensures needs { λ r. ⌜ r ≡ encodedLength (encodedOf rate (now (frame .entry)) (necFrameOf addr cmd start toggle rate)) ⌝ }
+    ensures answer { λ r. ⌜ r ≡ encodedLength (encodedOf rate (now (frame .entry)) (necFrameOf addr cmd start toggle rate)) ⌝ }
     ensures left { λ _. ⌜ now (frame .exit) ≡ leftOf rate (now (frame .entry)) (necFrameOf addr cmd start toggle rate) ⌝ }
 {
     let command = NecCommand {
@@ -211,7 +200,7 @@ pub extern "C" fn bench_encode_nec(
         cmd,
         repeat: toggle,
     };
-    encoded_length(nec::encoder::encode(command, rate, frame))
+    frames::encoded_length(nec::encoder::encode(command, rate, frame))
 }
 
 #[no_mangle]
@@ -223,7 +212,7 @@ pub extern "C" fn bench_encode_rc5(
     rate: u32,
     frame: &mut [u32],
 ) -> usize
-    ensures needs { λ r. ⌜ r ≡ encodedLength (encodedOf rate (now (frame .entry)) (rc5FrameOf addr cmd start toggle rate)) ⌝ }
+    ensures answer { λ r. ⌜ r ≡ encodedLength (encodedOf rate (now (frame .entry)) (rc5FrameOf addr cmd start toggle rate)) ⌝ }
     ensures left { λ _. ⌜ now (frame .exit) ≡ leftOf rate (now (frame .entry)) (rc5FrameOf addr cmd start toggle rate) ⌝ }
 {
     let command = Rc5Command {
@@ -232,7 +221,7 @@ pub extern "C" fn bench_encode_rc5(
         start,
         toggle,
     };
-    encoded_length(rc5::encoder::encode(command, rate, frame))
+    frames::encoded_length(rc5::encoder::encode(command, rate, frame))
 }
 
 #[no_mangle]
@@ -244,9 +233,9 @@ pub extern "C" fn bench_encode_rc6(
     rate: u32,
     frame: &mut [u32],
 ) -> usize
-    ensures needs { λ r. ⌜ r ≡ encodedLength (encodedOf rate (now (frame .entry)) (rc6FrameOf addr cmd start toggle rate)) ⌝ }
+    ensures answer { λ r. ⌜ r ≡ encodedLength (encodedOf rate (now (frame .entry)) (rc6FrameOf addr cmd start toggle rate)) ⌝ }
     ensures left { λ _. ⌜ now (frame .exit) ≡ leftOf rate (now (frame .entry)) (rc6FrameOf addr cmd start toggle rate) ⌝ }
 {
     let command = Rc6Command { addr, cmd, toggle };
-    encoded_length(rc6::encoder::encode(command, rate, frame))
+    frames::encoded_length(rc6::encoder::encode(command, rate, frame))
 }

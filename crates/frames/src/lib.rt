@@ -1,12 +1,23 @@
 // Document 01, "Frames": what is common to all encoders. Their answer, the scaling of NEC and RC5, and a bit of the packed command.
 ghost use mathlib.Core.Path.{_≡_};
-ghost use Rattle.frames.specs.Frames.{scaledOf, bitSet};
+ghost use Rattle.frames.specs.Frames.{scaledOf, bitSet, encodedLength};
 
 // What an encoder answers: the durations written; a refusal number; refusal 3 with the length needed.
 pub enum Encoded {
     Wrote(usize),
     Refused(u32),
     Short(usize),
+}
+
+// The frame's length that an answer carries: the count written, or the length needed; refusals 1 and 2 carry none.
+pub fn encoded_length(encoded: Encoded) -> usize
+    ensures { λ r. ⌜ r ≡ encodedLength encoded ⌝ }
+{
+    match encoded {
+        Encoded::Wrote(count) => count,
+        Encoded::Refused(_) => 0,
+        Encoded::Short(needed) => needed,
+    }
 }
 
 // A length in microseconds, in ticks of a rate. Above 1000 Hz the rate counts in whole kHz. Two numbers of 32 bits may give more than 32.

@@ -9,13 +9,12 @@ use native.Mathlib.Omega.{arith}
 use lib.Dec.{eqb}
 use lib.ListN.{length, getD, drop, drop-of-length-le}
 use lib.Seq.{drop-cons, drop-drop}
-use Rattle.reports.specs.Run.{Edge, edge, runReports, runAfter}
+use Rattle.reports.specs.Run.{Edge, edge, runReports, runAfter, alternating}
 use Rattle.reports.specs.declared.Report.{Report}
 use Rattle.reports.specs.declared.Report.the-variants as report
 use Rattle.receiver.specs.Decoder.{eventTotal, reportsOf, decoderAfter}
 use Rattle.receiver.specs.declared.decoder.Decoder.{Decoder}
 use Rattle.receiver.specs.declared.decoder.Total.{Total}
-use Rattle.promises.specs.Heard.{alternating}
 use Rattle.promises.specs.Send.{cameAs, wronged, noneYet, told, noted, notedAll, answerOf, summaryOf, heardOf}
 use Rattle.promises.specs.declared.send.Later.{Later}
 use Rattle.promises.specs.declared.send.Sent.{Sent}

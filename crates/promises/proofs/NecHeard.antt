@@ -18,7 +18,7 @@ use Rattle.commands.specs.declared.Command.the-variants as command
 use Rattle.commands.specs.declared.nec.NecCommand.{NecCommand}
 use Rattle.commands.proofs.Laws.{nec-back, nec-fits}
 use Rattle.frames.specs.Frames.{pairsFrom}
-use Rattle.reports.specs.Run.{Edge, edge, runReports}
+use Rattle.reports.specs.Run.{Edge, edge, runReports, alternating}
 use Rattle.reports.specs.declared.Fault.the-variants.{Data}
 use Rattle.reports.specs.declared.Report.{Report}
 use Rattle.reports.specs.declared.Report.the-variants as report
@@ -32,7 +32,7 @@ use Rattle.nec.specs.declared.decoder.NecDecoder.{NecDecoder}
 use Rattle.nec.specs.declared.decoder.NecTotalIn.{NecTotalIn}
 use Rattle.nec.proofs.Laws.{total-taken, reachable-in-reach, run-reachable}
 use Rattle.nec.proofs.Frame.{length-frame}
-use Rattle.promises.specs.Heard.{Near, none, more, alternating, Heard, NothingOrData, nothing, broken, necReceiver, EveryNecHeard}
+use Rattle.promises.specs.Heard.{Near, none, more, Heard, NothingOrData, nothing, broken, necReceiver, EveryNecHeard}
 use Rattle.spans.proofs.Places.{placeAt, allRead, noneReads, reads-place, ends-place}
 use Rattle.promises.proofs.Bits.{low-more}
 use Rattle.promises.proofs.Run.{Works, Silent, Goes, Reports, here, onward, heard, near-length}

@@ -17,7 +17,7 @@ use Rattle.commands.specs.declared.Command.the-variants as command
 use Rattle.commands.specs.declared.rc5.Rc5Command.{Rc5Command}
 use Rattle.commands.proofs.Laws.{rc5-back}
 use Rattle.frames.specs.Frames.{bitSet}
-use Rattle.reports.specs.Run.{Edge, edge, runReports}
+use Rattle.reports.specs.Run.{Edge, edge, runReports, alternating}
 use Rattle.reports.specs.declared.Report.the-variants as report
 use Rattle.reports.proofs.Either.{either}
 use Rattle.reports.proofs.Run.{after-keeps}
@@ -28,7 +28,7 @@ use Rattle.rc5.specs.declared.decoder.Rc5Memory.{Rc5Memory}
 use Rattle.rc5.specs.declared.decoder.Rc5TotalIn.{Rc5TotalIn}
 use Rattle.rc5.specs.declared.decoder.Rc5Decoder.{Rc5Decoder}
 use Rattle.rc5.proofs.Laws.{total-taken, reachable-in-reach, run-reachable, bad-rise-opens}
-use Rattle.promises.specs.Heard.{Near, none, alternating, Nothing, nothing, Heard, rc5Receiver, EveryRc5Heard}
+use Rattle.promises.specs.Heard.{Near, none, Nothing, nothing, Heard, rc5Receiver, EveryRc5Heard}
 use Rattle.promises.proofs.Run.{Works, Silent, Goes, Reports, near-length, then, heard}
 use Rattle.spans.proofs.Places.{placeAt, allRead, noneReads, reads-place, ends-place}
 use Rattle.promises.proofs.Biphase.{turn, turns, Follows, End, followed}

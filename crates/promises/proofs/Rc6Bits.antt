@@ -12,7 +12,7 @@ use Rattle.spans.specs.Spans.{spansOf, spansAt}
 use Rattle.commands.specs.Rc6.{unpackOf}
 use Rattle.commands.specs.declared.Command.the-variants as command
 use Rattle.frames.specs.Frames.{bitSet}
-use Rattle.reports.specs.Run.{runReports}
+use Rattle.reports.specs.Run.{runReports, alternating}
 use Rattle.reports.specs.declared.Status.the-variants as status
 use Rattle.rc6.specs.Encoder.{bitLevels, highestFirst, merged, inTicks}
 use Rattle.rc6.specs.EncoderSteps.{levelOf}
@@ -22,7 +22,7 @@ use Rattle.rc6.specs.declared.decoder.Rc6Memory.{Rc6Memory}
 use Rattle.rc6.specs.declared.decoder.Rc6Decoder.{Rc6Decoder}
 use Rattle.rc6.specs.declared.decoder.Rc6TotalIn.{Rc6TotalIn}
 use Rattle.rc6.proofs.Laws.{total-taken}
-use Rattle.promises.specs.Heard.{rc6Receiver, alternating, Near, none, more}
+use Rattle.promises.specs.Heard.{rc6Receiver, Near, none, more}
 use Rattle.spans.proofs.Places.{placeAt, allRead, noneReads, reads-place, ends-place}
 use Rattle.promises.proofs.Run.{Works, Silent, Goes, Reports, onward, then}
 use Rattle.promises.proofs.Biphase.{Follows, End, followed}

@@ -12,7 +12,7 @@ use Rattle.commands.specs.declared.rc6.Rc6Command.{Rc6Command}
 use Rattle.commands.proofs.Laws.{rc6-fits, rc6-back}
 use Rattle.frames.specs.Frames.{bitSet}
 use Rattle.frames.proofs.LowBits.{same-bits}
-use Rattle.reports.specs.Run.{Edge, edge}
+use Rattle.reports.specs.Run.{Edge, edge, alternating}
 use Rattle.reports.specs.declared.Report.the-variants as report
 use Rattle.reports.proofs.Run.{after-keeps}
 use Rattle.reports.proofs.Either.{either}
@@ -23,7 +23,7 @@ use Rattle.rc6.specs.declared.decoder.Rc6State.the-variants.{Leading, LeadingPa
 use Rattle.rc6.specs.declared.decoder.Rc6Memory.{Rc6Memory}
 use Rattle.rc6.specs.declared.decoder.Rc6Decoder.{Rc6Decoder}
 use Rattle.rc6.proofs.Laws.{reachable-in-reach, run-reachable, bad-rise-opens}
-use Rattle.promises.specs.Heard.{alternating, Near, more, Nothing, nothing, Heard, rc6Receiver, EveryRc6Heard}
+use Rattle.promises.specs.Heard.{Near, more, Nothing, nothing, Heard, rc6Receiver, EveryRc6Heard}
 use Rattle.spans.proofs.Places.{placeAt}
 use Rattle.promises.proofs.Run.{Silent, Goes, onward, heard, near-length}
 use Rattle.promises.proofs.Rc6Bits.{lows, highs, of, works, receives, single, double, triple, six, no-span, Wanted, data-heard}

@@ -9,7 +9,7 @@ use Rattle.spans.specs.Spans.{spansOf, spansAt}
 use Rattle.spans.specs.Lookup.{lowestFrom}
 use Rattle.commands.specs.Nec.{packOf, unpackOf}
 use Rattle.frames.specs.Frames.{pairsFrom}
-use Rattle.reports.specs.Run.{edge, runReports}
+use Rattle.reports.specs.Run.{edge, runReports, alternating}
 use Rattle.reports.specs.declared.Report.{Report}
 use Rattle.reports.specs.declared.Report.the-variants.{Nothing}
 use Rattle.reports.proofs.Either.{either}
@@ -20,7 +20,7 @@ use Rattle.nec.specs.declared.decoder.NecMemory.{NecMemory}
 use Rattle.nec.specs.declared.decoder.NecTotal.{NecTotal}
 use Rattle.nec.proofs.Pairs.{edgesAt, by-totals}
 use Rattle.nec.proofs.Laws.{fresh-reachable}
-use Rattle.promises.specs.Heard.{alternating, NothingOrData, nothing, broken}
+use Rattle.promises.specs.Heard.{NothingOrData, nothing, broken}
 use Rattle.promises.specs.Repeat.{reads, opens, taken, gatheredFrom, freshAt, syncedAt}
 use Rattle.promises.specs.RepeatShown.{RepeatShown}
 use Rattle.promises.specs.Totals.{atPairs, Tells, paired}

@@ -11,9 +11,9 @@ use lib.ListN.{length, length-append, length-replicate}
 use Rattle.commands.specs.declared.Command.{Command}
 use Rattle.reports.specs.declared.Report.{Report}
 use Rattle.reports.specs.declared.Report.the-variants as report
-use Rattle.reports.specs.Run.{Edge, edge, runReports}
+use Rattle.reports.specs.Run.{Edge, edge, runReports, alternating}
 use Rattle.reports.proofs.Run.{reports-counted}
-use Rattle.promises.specs.Heard.{Receiver, alternating, Near, none, more, quiet, onlyAt}
+use Rattle.promises.specs.Heard.{Receiver, Near, none, more, quiet, onlyAt}
 
 -- The step of a receiver, and the rule after it: what is told, and what is kept.
 pub record Works (R : Receiver) : Type 1 where

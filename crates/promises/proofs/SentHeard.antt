@@ -13,7 +13,7 @@ use Rattle.commands.proofs.Laws.{rc6-fits}
 use Rattle.frames.specs.Frames.{bitSet}
 use Rattle.reports.specs.declared.Report.{Report}
 use Rattle.reports.specs.declared.Report.the-variants as report
-use Rattle.reports.specs.Run.{Edge, runReports, runAfter}
+use Rattle.reports.specs.Run.{Edge, runReports, runAfter, alternating}
 use Rattle.reports.proofs.Run.{after-joined}
 use Rattle.receiver.specs.Decoder.{edgeAfter, reportsOf, decoderAfter}
 use Rattle.receiver.specs.Encoder.{encodeTaken, frameBy}
@@ -21,7 +21,7 @@ use Rattle.receiver.specs.declared.decoder.Decoder.{Decoder}
 use Rattle.receiver.proofs.Laws.{of-nec, nec-reports, nec-after, of-rc5, rc5-reports, rc5-after, of-rc6, rc6-reports, rc6-after}
 use Rattle.rc5.proofs.Frame as rc5
 use Rattle.rc6.proofs.Frame as rc6
-use Rattle.promises.specs.Heard.{Receiver, alternating, Near, quiet, onlyAt, Heard}
+use Rattle.promises.specs.Heard.{Receiver, Near, quiet, onlyAt, Heard}
 use Rattle.promises.specs.Heard.{necReceiver, rc5Receiver, rc6Receiver}
 use Rattle.promises.specs.Send.{wronged, edgesSent, noneYet, notedAll, summaryOf, heardOf, sentOf}
 use Rattle.promises.specs.Send.{Answered, SentHeard, EveryNecSent, EveryRc5Sent, EveryRc6Sent}

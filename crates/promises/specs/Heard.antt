@@ -1,7 +1,7 @@
 -- Demand 3, "A frame that is sent is heard": once for any receiver, silence, wrong and frame; then of NEC, RC5 and RC6.
 use Prim.Native.Nat.{ℕ, _+_, _-_, _≤_, _<_}
 use mathlib.Core.Path.{_≡_}
-use mathlib.Core.Bool.{Bool, true, false, not, cond}
+use mathlib.Core.Bool.{Bool, true, false, cond}
 use mathlib.Core.List.{List, [], _∷_, _++_}
 use lib.ListN.{length, drop, replicate}
 use Rattle.commands.specs.declared.Command.{Command}
@@ -10,7 +10,7 @@ use Rattle.commands.specs.declared.nec.NecCommand.{NecCommand}
 use Rattle.commands.specs.declared.rc5.Rc5Command.{Rc5Command}
 use Rattle.commands.specs.declared.rc6.Rc6Command.{Rc6Command}
 use Rattle.frames.specs.Frames.{bitSet}
-use Rattle.reports.specs.Run.{Edge, edge, runReports, runAfter}
+use Rattle.reports.specs.Run.{Edge, runReports, runAfter, alternating}
 use Rattle.reports.specs.declared.Fault.the-variants.{Data}
 use Rattle.reports.specs.declared.Report.{Report}
 use Rattle.reports.specs.declared.Report.the-variants as report
@@ -30,11 +30,6 @@ pub record Receiver : Type 1 where
   pub fresh : Decoder
   pub report : Decoder → Edge → Report
   pub after : Decoder → Edge → Decoder
-
--- durations "in alternating edges", the first one rising or falling as told
-unfoldable pub alternating : Bool → List ℕ → List Edge
-alternating rising [] = []
-alternating rising (duration ∷ durations) = edge rising duration ∷ alternating (not rising) durations
 
 -- "each wrong by at most": as many durations came as were sent
 pub data Near (wrong : ℕ) : List ℕ → List ℕ → Type 0 where

@@ -3,11 +3,11 @@ use Prim.Native.Nat.{ℕ}
 use mathlib.Core.Path.{_≡_}
 use mathlib.Core.Bool.{true, false}
 use mathlib.Core.List.{[], _∷_, _++_}
-use Rattle.reports.specs.Run.{edge}
+use Rattle.reports.specs.Run.{edge, alternating}
 use Rattle.reports.specs.declared.Fault.the-variants.{Data}
 use Rattle.reports.specs.declared.Report.{Report}
 use Rattle.reports.specs.declared.Report.the-variants.{Nothing, Error}
-use Rattle.promises.specs.Heard.{alternating, quiet, NothingOrData}
+use Rattle.promises.specs.Heard.{quiet, NothingOrData}
 use Rattle.promises.specs.Repeat.{freshAt, opens, gathered}
 use Rattle.promises.specs.Totals.{Tells, key, pressed, held, pulsesOf, brokenAt, holding}
 

@@ -13,7 +13,7 @@ use Rattle.commands.specs.declared.rc6.Rc6Command.{Rc6Command}
 use Rattle.frames.specs.Frames.{bitSet}
 use Rattle.commands.specs.Command.{protocolOf, valuesOf}
 use Rattle.reports.specs.Reports.{reportNumber, reportValues}
-use Rattle.reports.specs.Run.{Edge}
+use Rattle.reports.specs.Run.{Edge, alternating}
 use Rattle.reports.specs.declared.Report.{Report}
 use Rattle.reports.specs.declared.Report.the-variants as report
 use Rattle.rc5.specs.Encoder.{rc5Frame}
@@ -21,7 +21,7 @@ use Rattle.rc6.specs.Encoder.{rc6Frame}
 use Rattle.receiver.specs.Decoder.{newAt, reportsOf, decoderAfter}
 use Rattle.receiver.specs.Encoder.{encodeTaken, frameBy}
 use Rattle.receiver.specs.declared.decoder.Decoder.{Decoder}
-use Rattle.promises.specs.Heard.{alternating, Near, Nothing, NothingOrData}
+use Rattle.promises.specs.Heard.{Near, Nothing, NothingOrData}
 use Rattle.promises.specs.declared.send.Later.{Later}
 use Rattle.promises.specs.declared.send.Sent.{Sent}
 

@@ -19,16 +19,6 @@ fn encoded_number(encoded: Encoded) -> u32
     }
 }
 
-fn encoded_length(encoded: Encoded) -> usize
-    ensures { λ r. ⌜ r ≡ encodedLength encoded ⌝ }
-{
-    match encoded {
-        Encoded::Wrote(count) => count,
-        Encoded::Refused(_) => 0,
-        Encoded::Short(needed) => needed,
-    }
-}
-
 fn refusal_number(answer: Answer) -> u32
     ensures { λ r. ⌜ r ≡ refusalNumber answer ⌝ }
 {
@@ -66,7 +56,7 @@ pub extern "C" fn seat_encode(
     ensures left { λ _. ⌜ now (frame .exit) ≡ leftBy protocol rate (now (frame .entry)) (frameBy protocol rate addr cmd start toggle) ⌝ }
 {
     let encoded = receiver::encoder::encode(protocol, rate, addr, cmd, start, toggle, frame);
-    *length = encoded_length(encoded);
+    *length = frames::encoded_length(encoded);
     encoded_number(encoded)
 }
 

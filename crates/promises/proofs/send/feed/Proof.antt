@@ -5,7 +5,7 @@ use mathlib.Core.Bool.{false}
 use native.Mathlib.Omega.{arith}
 use borrow.Author.Needs.{needs}
 use lib.ListN.{length}
-use Rattle.promises.specs.Heard.{alternating}
+use Rattle.reports.specs.Run.{alternating}
 use Rattle.promises.proofs.Feeding.{rest, fed, others-next, fed-first, fed-next, fed-end}
 use Rattle.promises.proofs.send.feed.Statement.{statement}
 use Rattle.promises.proofs.send.feed.Tie as tie
