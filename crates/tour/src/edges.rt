@@ -1,4 +1,4 @@
-// Edges in order to a decoder, and a line for each that is to be shown. The spans are lent and the memory goes on.
+// Edges in order to a decoder, and a line for each that is to be shown.
 use crate::report_text::print_report;
 use crate::text::print;
 use crate::text::print_gap;
@@ -6,8 +6,6 @@ use crate::text::print_newline;
 use crate::text::print_right;
 use answers::is_nothing;
 use receiver::decoder::Decoder;
-use receiver::decoder::Memory;
-use receiver::decoder::total_in;
 use reports::Report;
 
 pub fn print_head() {
@@ -32,48 +30,33 @@ fn print_line(i: usize, rising: bool, duration: u32, report: Report) {
 }
 
 // All edges are shown, or those that report something.
-fn edge<'a>(
-    low: &'a [u32; 8],
-    high: &'a [u32; 8],
-    all: bool,
-    i: usize,
-    rising: bool,
-    duration: u32,
-    memory: Memory,
-) -> Memory {
-    let total = total_in(low, high, memory, rising, duration);
-    let report = total.report;
-    let after = total.memory;
+fn print_shown(all: bool, i: usize, rising: bool, duration: u32, report: Report) {
     if all || !is_nothing(report) {
         print_line(i, rising, duration, report);
     }
-    after
 }
 
-// The memory after durations in alternating edges; `first` is 0 where the first one rises, and 1 where it falls.
-fn feed<'a>(
-    low: &'a [u32; 8],
-    high: &'a [u32; 8],
-    all: bool,
-    first: usize,
-    durations: &[u32],
-    before: Memory,
-) -> Memory {
-    let mut memory = before;
+fn edge(decoder: Decoder, all: bool, i: usize, rising: bool, duration: u32) -> Decoder {
+    let total = decoder.event_total(rising, duration);
+    let report = total.report;
+    print_shown(all, i, rising, duration, report);
+    total.decoder
+}
+
+// The decoder after durations in alternating edges; `first` is 0 where the first one rises, and 1 where it falls.
+fn feed(before: Decoder, all: bool, first: usize, durations: &[u32]) -> Decoder {
+    let mut decoder = before;
     let mut i: usize = 0;
     while i < durations.len() {
-        memory = edge(low, high, all, i, i % 2 == first, durations[i], memory);
+        decoder = edge(decoder, all, i, i % 2 == first, durations[i]);
         i += 1;
     }
-    memory
+    decoder
 }
 
 // The same for a fresh decoder.
 pub fn feed_fresh(protocol: u32, rate: u32, all: bool, first: usize, durations: &[u32]) -> Decoder {
     let made = Decoder::new(protocol, rate);
     let fresh = made.decoder;
-    let spans = fresh.spans;
-    let before = fresh.memory;
-    let memory = feed(&spans.low, &spans.high, all, first, durations, before);
-    Decoder { spans, memory }
+    feed(fresh, all, first, durations)
 }

@@ -106,8 +106,13 @@ fn report_at_bit_32() -> Report {
     total.report
 }
 
-fn show_refusals() {
+// An RC5 frame's answer, or the refusal of its number, with 25 places of room.
+fn show_in_25(protocol: u32, rate: u32) {
     let mut room = [0u32; 25];
+    frame_table::show(protocol, rate, 0, 0, 3, false, &mut room);
+}
+
+fn show_refusals() {
     print(
         b"
 
@@ -116,11 +121,11 @@ Nothing that is asked can trip it: each of these calls comes back.
 asked                                                                    answered
 the frame of protocol 6                                                  ",
     );
-    frame_table::show(6, 1000000, 0, 0, 3, false, &mut room);
+    show_in_25(6, 1000000);
     print(b"\nthe frame of RC5 address 0, command 0, start 3, toggle 0, at 0 Hz        ");
-    frame_table::show(2, 0, 0, 0, 3, false, &mut room);
+    show_in_25(2, 0);
     print(b"\nthe same at 1 MHz, into 25 places                                        ");
-    frame_table::show(2, 1000000, 0, 0, 3, false, &mut room);
+    show_in_25(2, 1000000);
     print(b"\nan edge, of a decoder of NEC that is told to be at bit 32                ");
     print_report(report_at_bit_32());
 }

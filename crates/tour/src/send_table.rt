@@ -135,14 +135,14 @@ pub fn print_head() {
     );
 }
 
+// A number that is refused has no line.
 pub fn show(protocol: u32, addr: u8, cmd: u8, start: u8, toggle: bool, silence: u32, wrong: u32) {
-    let sent = sent_of(protocol, addr, cmd, start, toggle, silence, wrong);
-    let first = sent.first;
-    match first {
-        Report::Refused(number) => print_report(Report::Refused(number)),
-        _ => {
-            print_head();
-            print_line(protocol, addr, cmd, start, toggle, silence, wrong);
-        }
+    if 1 <= protocol && protocol <= 3 {
+        print_head();
+        print_line(protocol, addr, cmd, start, toggle, silence, wrong);
+    } else {
+        let sent = sent_of(protocol, addr, cmd, start, toggle, silence, wrong);
+        let first = sent.first;
+        print_report(first);
     }
 }

@@ -6,10 +6,10 @@ use Rattle.tour.proofs.edges.feed.Statement.{statement}
 use Rattle.tour.proofs.edges.feed.Tie as tie
 
 abbrev Inv-loop : tie.InvT-loop
-Inv-loop low high all first durations memory₀ i₀ memory i = Unit {0}
+Inv-loop all first durations decoder₀ i₀ decoder i = Unit {0}
 
 abbrev μ-loop : tie.MeasureT-loop
-μ-loop low high all first durations memory₀ i₀ memory i = length durations - i
+μ-loop all first durations decoder₀ i₀ decoder i = length durations - i
 
 pub feed-spec : {M : Type 1} → statement M
 feed-spec =
@@ -20,7 +20,7 @@ feed-spec =
     (λ c. search needs)
     (λ c. search needs)
     (λ c. search needs)
-    (λ c κs. search needs)
+    (λ c. search needs)
     (λ c. search needs)
     (λ c. search needs)
     (λ c. search needs)
