@@ -1,2 +1,3 @@
 pub mod Summing
+pub mod Calls
 pub mod Determined

@@ -11,20 +11,16 @@ use Rattle.reports.specs.declared.Report.{Report}
 use Rattle.polled.specs.Polled.{pollOf, pollReports}
 use Rattle.polled.specs.declared.Polled.{Polled}
 use Rattle.bench.specs.Bench.{added, addedAll}
-use Rattle.bench_polls.specs.Polls.{levelsOf}
-
--- what the sum comes to over the levels from a place on
-abbrev pub summed : ℕ → Polled → List ℕ → ℕ
-summed sum receiver levels = addedAll sum (pollReports receiver (levelsOf levels))
+use Rattle.bench_polls.specs.Polls.{levelsOf, sumOf}
 
 pub summed-next
     : (levels : List ℕ) (at : ℕ) → at < length levels → (sum then : ℕ) (receiver next : Polled) (told : Report)
     → told ≡ pollOf receiver (eqb (getD levels at 0) 1) .report → next ≡ pollOf receiver (eqb (getD levels at 0) 1) .receiver → then ≡ added sum told
-    → summed then next (drop (at + 1) levels) ≡ summed sum receiver (drop at levels)
+    → sumOf then next (drop (at + 1) levels) ≡ sumOf sum receiver (drop at levels)
 unfolding addedAll pollReports levelsOf
 summed-next levels at more sum then receiver next told tells goes adds = rw (drop-cons levels at 0, adds, tells, goes, add-one at)
 
 pub summed-end
-    : (levels : List ℕ) (at : ℕ) → length levels ≤ at → (sum : ℕ) (receiver : Polled) → summed sum receiver (drop at levels) ≡ sum
+    : (levels : List ℕ) (at : ℕ) → length levels ≤ at → (sum : ℕ) (receiver : Polled) → sumOf sum receiver (drop at levels) ≡ sum
 unfolding addedAll pollReports levelsOf
 summed-end levels at past sum receiver = rw (drop-of-length-le levels {i = at} past)
