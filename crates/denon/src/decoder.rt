@@ -54,9 +54,10 @@ pub struct DenonTotal {
 }
 
 // Refusal 4: the bit counter is above 47.
-pub fn past_end(state: DenonState) -> bool
-    ensures { λ r. ⌜ r ≡ pastEnd state ⌝ }
+pub fn past_end(m: DenonMemory) -> bool
+    ensures { λ r. ⌜ r ≡ pastEnd (m .state) ⌝ }
 {
+    let state = m.state;
     match state {
         DenonState::Idle => false,
         DenonState::Data(n) => 47 < n,

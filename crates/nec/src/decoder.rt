@@ -57,9 +57,10 @@ pub struct NecTotal {
 }
 
 // Refusal 4: the bit counter is above 31.
-pub fn past_end(state: NecState) -> bool
-    ensures { λ r. ⌜ r ≡ pastEnd state ⌝ }
+pub fn past_end(m: NecMemory) -> bool
+    ensures { λ r. ⌜ r ≡ pastEnd (m .state) ⌝ }
 {
+    let state = m.state;
     match state {
         NecState::Init => false,
         NecState::Receiving(n) => 31 < n,

@@ -56,9 +56,10 @@ pub struct Rc5Total {
 }
 
 // Refusal 4: the bit counter is above 12.
-pub fn past_end(state: Rc5State) -> bool
-    ensures { λ r. ⌜ r ≡ pastEnd state ⌝ }
+pub fn past_end(m: Rc5Memory) -> bool
+    ensures { λ r. ⌜ r ≡ pastEnd (m .state) ⌝ }
 {
+    let state = m.state;
     match state {
         Rc5State::Idle => false,
         Rc5State::Data(n) => 12 < n,

@@ -63,9 +63,10 @@ pub struct Rc6Total {
 }
 
 // Refusal 4: the bit counter is above 3 in the header, or above 15 in the data.
-pub fn past_end(state: Rc6State) -> bool
-    ensures { λ r. ⌜ r ≡ pastEnd state ⌝ }
+pub fn past_end(m: Rc6Memory) -> bool
+    ensures { λ r. ⌜ r ≡ pastEnd (m .state) ⌝ }
 {
+    let state = m.state;
     match state {
         Rc6State::Idle => false,
         Rc6State::Leading => false,

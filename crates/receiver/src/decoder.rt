@@ -76,26 +76,11 @@ pub fn past_end(memory: Memory) -> bool
     ensures { λ r. ⌜ r ≡ pastEnd memory ⌝ }
 {
     match memory {
-        Memory::Nec(m) => {
-            let state = m.state;
-            nec::decoder::past_end(state)
-        }
-        Memory::Rc5(m) => {
-            let state = m.state;
-            rc5::decoder::past_end(state)
-        }
-        Memory::Rc6(m) => {
-            let state = m.state;
-            rc6::decoder::past_end(state)
-        }
-        Memory::Sbp(m) => {
-            let state = m.state;
-            sbp::decoder::past_end(state)
-        }
-        Memory::Denon(m) => {
-            let state = m.state;
-            denon::decoder::past_end(state)
-        }
+        Memory::Nec(m) => nec::decoder::past_end(m),
+        Memory::Rc5(m) => rc5::decoder::past_end(m),
+        Memory::Rc6(m) => rc6::decoder::past_end(m),
+        Memory::Sbp(m) => sbp::decoder::past_end(m),
+        Memory::Denon(m) => denon::decoder::past_end(m),
     }
 }
 

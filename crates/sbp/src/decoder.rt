@@ -60,9 +60,10 @@ pub struct SbpTotal {
 }
 
 // Refusal 4: the bit counter is above 15 in the address, above 19 in the command.
-pub fn past_end(state: SbpState) -> bool
-    ensures { λ r. ⌜ r ≡ pastEnd state ⌝ }
+pub fn past_end(m: SbpMemory) -> bool
+    ensures { λ r. ⌜ r ≡ pastEnd (m .state) ⌝ }
 {
+    let state = m.state;
     match state {
         SbpState::Init => false,
         SbpState::Address(n) => 15 < n,
