@@ -7,14 +7,14 @@ use mathlib.Core.List.{List, [], _∷_, _++_}
 use Prim.Native.Nat.{ℕ, zero, suc, _+_, _%_, _^_, _<_}
 use native.Mathlib.Omega.{arith}
 use lib.ListN.{length, replicate}
-use Rattle.spans.specs.declared.Spans.{Spans}
 use Rattle.reports.specs.declared.Report.{Report}
 use Rattle.reports.specs.declared.Report.the-variants as report
 use Rattle.receiver.specs.Decoder.{pastEnd}
-use Rattle.polled.specs.Polled.{ticked, runLength, keptAt, pollRefused, pollUnchanged, pollChanged, pollOf, atUnchanged, pollReports, pollAfter, idled}
+use Rattle.polled.specs.Polled.{ticked, runLength, keptAt, pollRefused, pollUnchanged, pollChanged, pollOf, atUnchanged, atChange, pollReports, pollAfter, idled}
 use Rattle.polled.specs.declared.Polled.{Polled}
 use Rattle.polled.specs.declared.PolledTotal.{PolledTotal}
 use Rattle.polled.specs.declared.Unchanged.{Unchanged}
+use Rattle.polled.specs.declared.Changed.{Changed}
 
 -- ---- one poll
 
@@ -58,24 +58,19 @@ spans-kept p level = each (pastEnd (p .decoder .memory)) (Bool·beq (p .level) l
     each false true = refl
     each false false = refl
 
--- so what it gives is told by all but the spans
-abbrev pub with-spans : Spans → PolledTotal → PolledTotal
-with-spans spans t =
+-- what a change stores: all but the spans
+abbrev pub moved : Polled → Bool → Changed → PolledTotal
+moved p level t =
     record {
       report = t .report;
-      receiver = record {
-        decoder = record { spans = spans; memory = t .receiver .decoder .memory };
-        clock = t .receiver .clock;
-        edge = t .receiver .edge;
-        level = t .receiver .level;
-      };
+      receiver = record { decoder = record { spans = p .decoder .spans; memory = t .memory }; clock = t .clock; edge = t .clock; level = level };
     }
 
-abbrev pub stored : Polled → PolledTotal → PolledTotal
-stored p t = with-spans (p .decoder .spans) t
-
-pub stored-all : (p : Polled) (level : Bool) → stored p (pollOf p level) ≡ pollOf p level
-stored-all p level = ap (λ (spans : Spans). with-spans spans (pollOf p level)) (sym (spans-kept p level))
+-- a change that is not refused, from what it reads alone
+pub level-changed
+    : (p : Polled) (level : Bool) → pastEnd (p .decoder .memory) ≡ false → Bool·beq (p .level) level ≡ false
+    → moved p level (atChange (p .decoder) (p .clock) (p .edge) level) ≡ pollOf p level
+level-changed p level within other = sym (changed p level within other)
 
 -- the run length is the one number below 2^32 that takes the last edge to the clock
 pub run-length : (run clock edge : ℕ) → run < 2 ^ 32 → edge < 2 ^ 32 → (run + edge) % 2 ^ 32 ≡ clock → run ≡ runLength clock edge

@@ -5,7 +5,7 @@ use receiver::decoder::past_end;
 use reports::Report;
 use spans::Answer;
 ghost use mathlib.Core.Path.{_≡_};
-ghost use Rattle.polled.specs.Polled.{polledAt, keptAt, pollOf, atUnchanged};
+ghost use Rattle.polled.specs.Polled.{polledAt, keptAt, pollOf, atUnchanged, atChange};
 
 // The decoder, the clock, the time of the last edge and the last level.
 pub struct Polled {
@@ -28,6 +28,13 @@ pub struct PolledTotal {
 // What a poll of an unchanged level gives.
 struct Unchanged {
     report: Report,
+    clock: u32,
+}
+
+// What a change gives.
+struct Changed {
+    report: Report,
+    memory: Memory,
     clock: u32,
 }
 
@@ -111,8 +118,25 @@ fn at_unchanged(memory: Memory, clock: u32) -> Unchanged
     }
 }
 
+// A change that is not refused, from all that it reads.
+fn at_change(decoder: Decoder, clock: u32, edge: u32, level: bool) -> Changed
+    ensures { λ r. ⌜ r ≡ atChange decoder clock edge level ⌝ }
+{
+    let after = std::num::wrapping_add_u32(clock, 1);
+    let run = std::num::wrapping_sub_u32(after, edge);
+    let total = decoder.event_total(level, run);
+    let report = total.report;
+    let decoder = total.decoder;
+    let memory = decoder.memory;
+    Changed {
+        report,
+        memory,
+        clock: after,
+    }
+}
+
 // One poll of the record that the caller keeps, by the same steps. Most polls change nothing, so each way reads and stores only what it needs:
-// an unchanged level stores the clock, and a change all but the spans.
+// an unchanged level stores the clock, a refused change nothing, and a change all but the spans.
 pub fn poll(receiver: &mut Polled, level: bool) -> Report
     ensures { λ r. ⌜ (r ≡ pollOf (now (receiver .entry)) level .report) × (now (receiver .exit) ≡ pollOf (now (receiver .entry)) level .receiver) ⌝ }
 {
@@ -123,13 +147,19 @@ pub fn poll(receiver: &mut Polled, level: bool) -> Report
         receiver.clock = kept.clock;
         return kept.report;
     }
-    let total = (*receiver).poll_by_value(level);
-    let after = total.receiver;
-    receiver.decoder.memory = after.decoder.memory;
-    receiver.clock = after.clock;
-    receiver.edge = after.edge;
-    receiver.level = after.level;
-    total.report
+    let memory = receiver.decoder.memory;
+    if past_end(memory) {
+        return Report::Refused(4);
+    }
+    let decoder = receiver.decoder;
+    let clock = receiver.clock;
+    let edge = receiver.edge;
+    let changed = at_change(decoder, clock, edge, level);
+    receiver.decoder.memory = changed.memory;
+    receiver.clock = changed.clock;
+    receiver.edge = changed.clock;
+    receiver.level = level;
+    changed.report
 }
 
 // By value again, through the record lent: whoever calls this one lends nothing.
