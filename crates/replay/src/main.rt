@@ -1,22 +1,21 @@
 // Reads calls, one to a line, from standard input and prints the answer to each, a line.
 // The calls and their answers are listed in README.md, "The call language".
-mod calls;
-mod line;
 mod on_frames;
-mod on_slots;
 mod on_spans;
 mod out;
 
 use calls::call_of;
-use calls::put_answer;
+use calls::on_slots::Slots;
+use calls::on_slots::Told;
+use calls::on_slots::all_closed;
+use calls::on_slots::answered;
 use libc::STDERR_FILENO;
 use libc::STDIN_FILENO;
 use libc::STDOUT_FILENO;
-use on_slots::Slots;
-use on_slots::SlotsEnd;
-use on_slots::all_closed;
-use on_slots::answered;
+use on_frames::put_encode_call;
+use on_spans::put_spans_call;
 use out::put;
+use out::put_told;
 use words::Line;
 use words::fresh;
 use words::is_begun;
@@ -29,10 +28,15 @@ pub struct Input {
     pub is_end: bool,
 }
 
-// All that is kept between bytes: the place in the text that gathers the answers, the line and the slots.
+// A line, and the input behind it.
+pub struct Reading {
+    pub line: Line,
+    pub input: Input,
+}
+
+// All that is kept between lines: the place in the text that gathers the answers, and the slots.
 pub struct State {
     pub at: usize,
-    pub line: Line,
     pub slots: Slots,
 }
 
@@ -49,43 +53,42 @@ fn flushed(text: &[u8], at: usize, room: usize) -> usize {
     at
 }
 
-fn answer(text: &mut [u8], at: usize, line: Line, n: &[u64; 8], slots: Slots) -> SlotsEnd {
-    let call = call_of(line, n);
-    if calls::OPEN <= call && call <= calls::IDLE {
-        return answered(text, at, call, n, slots);
+fn put_answer(text: &mut [u8], at: usize, call: usize, n: &[u64; 8], told: Told) -> usize {
+    if call == calls::SPANS {
+        return put_spans_call(text, at, n[0], n[1]);
     }
-    let next = put_answer(text, at, call, n);
-    SlotsEnd { at: next, slots }
+    if call == calls::ENCODE {
+        return put_encode_call(text, at, n);
+    }
+    put_told(text, at, told)
 }
 
-// The end of a line: its call is answered, and the next line begins.
-fn line_ended(text: &mut [u8], at: usize, line: Line, n: &[u64; 8], slots: Slots) -> State {
-    let a = answer(text, at, line, n, slots);
-    let after = a.slots;
-    let next = put(text, a.at, b'\n');
+// A line's call is answered.
+fn line_answered(text: &mut [u8], state: State, line: Line, n: &[u64; 8]) -> State {
+    let slots = state.slots;
+    let call = call_of(line, n);
+    let outcome = answered(call, n, slots);
+    let told = outcome.told;
+    let after = outcome.slots;
+    let next = put_answer(text, state.at, call, n, told);
+    let next = put(text, next, b'\n');
     State {
         at: flushed(text, next, 4096),
-        line: fresh(),
         slots: after,
     }
 }
 
-// One byte of input.
-fn fed(text: &mut [u8], state: State, numbers: &mut [u64; 8], b: u8) -> State {
-    let line = state.line;
-    let slots = state.slots;
-    if b == b'\n' {
-        return line_ended(text, state.at, line, numbers, slots);
+// The next byte; where none is left, more is read first.
+fn next(buf: &mut [u8], input: Input) -> Input {
+    let at = input.at;
+    if at < input.end && at < buf.len() {
+        return Input {
+            at: at + 1,
+            end: input.end,
+            byte: buf[at],
+            is_end: false,
+        };
     }
-    State {
-        at: state.at,
-        line: line::fed(line, numbers, b),
-        slots,
-    }
-}
-
-// Reads anew, and takes the first byte.
-fn refilled(buf: &mut [u8]) -> Input {
     let got = libc::read(STDIN_FILENO, buf);
     let end = io::count(got, buf);
     if 0 < end && 0 < buf.len() {
@@ -104,24 +107,34 @@ fn refilled(buf: &mut [u8]) -> Input {
     }
 }
 
-fn next(buf: &mut [u8], input: Input) -> Input {
-    let at = input.at;
-    if at < input.end && at < buf.len() {
-        return Input {
-            at: at + 1,
-            end: input.end,
-            byte: buf[at],
-            is_end: false,
-        };
+// To the end of a line or of the input. A proved loop has to end, and nothing says that the input does: so the bytes are counted down.
+fn read_line(buf: &mut [u8], start: Input, numbers: &mut [u64; 8]) -> Reading {
+    let mut line = fresh();
+    let mut input = start;
+    let mut left = u64::MAX;
+    while left > 0 {
+        input = next(buf, input);
+        if input.is_end {
+            return Reading { line, input };
+        }
+        if input.byte == b'\n' {
+            return Reading { line, input };
+        }
+        line = words::fed(line, numbers, input.byte);
+        left -= 1;
     }
-    refilled(buf)
+    Reading { line, input }
 }
 
-// To the end of the input, or until the output takes no more. A proved loop has to end, and nothing says that the input does: so the bytes are counted down.
-fn read_all(text: &mut [u8], numbers: &mut [u64; 8], buf: &mut [u8]) -> State {
+// Nothing is left to answer; a last line may lack its newline.
+fn is_over(line: Line, is_end: bool) -> bool {
+    is_end && !is_begun(line)
+}
+
+// To the end of the input, or until the output takes no more.
+fn read_all(text: &mut [u8], numbers: &mut [u64; 8], buf: &mut [u8]) -> usize {
     let mut state = State {
         at: 0,
-        line: fresh(),
         slots: all_closed(),
     };
     let mut input = Input {
@@ -132,32 +145,26 @@ fn read_all(text: &mut [u8], numbers: &mut [u64; 8], buf: &mut [u8]) -> State {
     };
     let mut left = u64::MAX;
     while left > 0 {
-        input = next(buf, input);
-        if input.is_end {
-            return state;
+        let reading = read_line(buf, input, numbers);
+        let line = reading.line;
+        input = reading.input;
+        if is_over(line, input.is_end) {
+            return state.at;
         }
-        state = fed(text, state, numbers, input.byte);
+        state = line_answered(text, state, line, numbers);
         if text.len() < state.at {
-            return state;
+            return state.at;
+        }
+        if input.is_end {
+            return state.at;
         }
         left -= 1;
-    }
-    state
-}
-
-// Answers a last line that lacks its newline.
-fn last_answered(text: &mut [u8], state: State, numbers: &mut [u64; 8]) -> usize {
-    let line = state.line;
-    if is_begun(line) {
-        let after = fed(text, state, numbers, b'\n');
-        return after.at;
     }
     state.at
 }
 
 // Writes out what is left, and says so where answers are lost.
-fn finish(text: &mut [u8], state: State, numbers: &mut [u64; 8]) {
-    let at = last_answered(text, state, numbers);
+fn finish(text: &[u8], at: usize) {
     if text.len() < flushed(text, at, 65537) {
         io::write_all(STDERR_FILENO, b"replay: the output takes no more\n");
     }
@@ -167,6 +174,6 @@ fn main() {
     let mut numbers = [0u64; 8];
     let mut text = io::large_buffer();
     let mut buf = io::large_buffer();
-    let state = read_all(&mut text, &mut numbers, &mut buf);
-    finish(&mut text, state, &mut numbers);
+    let at = read_all(&mut text, &mut numbers, &mut buf);
+    finish(&text, at);
 }

@@ -1,12 +1,9 @@
-// The calls on spans: spans PROTOCOL RATE, and lookup PROTOCOL RATE DURATION.
+// The call on spans: spans PROTOCOL RATE.
 use crate::out::put_letters;
 use crate::out::put_number;
 use crate::out::put_said;
-use answers::Said;
 use answers::is_taken;
 use answers::of_answer;
-use answers::of_found;
-use spans::Spans;
 use words::low_32;
 
 fn put_span(text: &mut [u8], at: usize, low: u32, high: u32) -> usize {
@@ -21,7 +18,13 @@ fn gap(place: usize) -> u64 {
     if 0 < place { 0x20 } else { 0 }
 }
 
-fn put_spans(text: &mut [u8], at: usize, spans: Spans) -> usize {
+pub fn put_spans_call(text: &mut [u8], at: usize, protocol: u64, rate: u64) -> usize {
+    let built = spans::spans_of(low_32(protocol), low_32(rate));
+    let answer = built.answer;
+    let spans = built.spans;
+    if !is_taken(answer) {
+        return put_said(text, at, of_answer(answer));
+    }
     let mut next = at;
     let mut place: usize = 0;
     while place < 8 {
@@ -30,28 +33,4 @@ fn put_spans(text: &mut [u8], at: usize, spans: Spans) -> usize {
         place += 1;
     }
     next
-}
-
-pub fn put_spans_call(text: &mut [u8], at: usize, protocol: u64, rate: u64) -> usize {
-    let built = spans::spans_of(low_32(protocol), low_32(rate));
-    let answer = built.answer;
-    let s = built.spans;
-    if is_taken(answer) {
-        return put_spans(text, at, s);
-    }
-    put_said(text, at, of_answer(answer))
-}
-
-fn lookup_said(protocol: u64, rate: u64, d: u64) -> Said {
-    let built = spans::spans_of(low_32(protocol), low_32(rate));
-    let answer = built.answer;
-    let s = built.spans;
-    if is_taken(answer) {
-        return of_found(spans::lookup(s, d));
-    }
-    of_answer(answer)
-}
-
-pub fn put_lookup_call(text: &mut [u8], at: usize, protocol: u64, rate: u64, d: u64) -> usize {
-    put_said(text, at, lookup_said(protocol, rate, d))
 }

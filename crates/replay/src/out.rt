@@ -1,5 +1,6 @@
 // Text that gathers in a lent slice. Each function takes the place where its text starts, and answers the next one.
 use answers::Said;
+use calls::on_slots::Told;
 use words::first_letter;
 use words::other_letters;
 
@@ -70,8 +71,21 @@ pub fn put_said(text: &mut [u8], at: usize, said: Said) -> usize {
 }
 
 // A part of an answer that others follow.
-pub fn put_part(text: &mut [u8], at: usize, said: Said) -> usize {
+fn put_part(text: &mut [u8], at: usize, said: Said) -> usize {
     let next = put_said(text, at, said);
     // a comma and a blank
     put_letters(text, next, 0x2C20)
+}
+
+pub fn put_told(text: &mut [u8], at: usize, told: Told) -> usize {
+    let said = told.said;
+    if told.is_edge {
+        let head = told.head;
+        let status = head.status;
+        let command = head.command;
+        let next = put_part(text, at, status);
+        let next = put_part(text, next, command);
+        return put_said(text, next, said);
+    }
+    put_said(text, at, said)
 }

@@ -1,7 +1,9 @@
 -- A line of input as it is read, and numbers a digit or a letter at a time.
 use Prim.Native.Nat.{ℕ, _+_, _-_, _*_, _/_, _%_, _^_}
-use mathlib.Core.Bool.{Bool, true, false, cond}
-use lib.Dec.{leb, ltb}
+use mathlib.Core.Bool.{Bool, true, false, cond, _&&_}
+use mathlib.Core.List.{List}
+use lib.Dec.{leb, ltb, eqb}
+use lib.ListN.{getD, set}
 use Rattle.words.specs.declared.Line.{Line}
 
 abbrev pub freshLine : Line
@@ -32,3 +34,32 @@ firstLetter word = word / 2 ^ 56 % 256
 
 abbrev pub otherLetters : ℕ → ℕ
 otherLetters word = word % 2 ^ 56 * 256
+
+abbrev pub isLetter : ℕ → Bool
+isLetter b = leb 97 b && leb b 122
+
+abbrev pub isDigit : ℕ → Bool
+isDigit b = leb 48 b && leb b 57
+
+-- a line and its numbers, after a digit of the number begun last
+abbrev pub digitFed : Line → List ℕ → ℕ → Line × List ℕ
+digitFed line numbers d =
+    let last = line .count - 1 in
+    let x = getD numbers last 0 in
+    cond (leb 1 (line .count) && leb (line .count) 8 && isRoom x d)
+    (record { name = line .name; count = line .count; whole = true }, set numbers last (digitOn x d))
+    (brokenLine, numbers)
+
+-- after a blank: it ends the name or a number, and begins the next of eight numbers
+abbrev pub blankFed : Line → List ℕ → Line × List ℕ
+blankFed line numbers =
+    cond (ltb (line .count) 8 && line .whole)
+    (record { name = line .name; count = line .count + 1; whole = false }, set numbers (line .count) 0)
+    (brokenLine, numbers)
+
+-- after a byte: a blank, a letter of the name or a digit of a number
+abbrev pub fedOf : Line → List ℕ → ℕ → Line × List ℕ
+fedOf line numbers b =
+    cond (eqb b 32) (blankFed line numbers)
+    (cond (eqb (line .count) 0) (cond (isLetter b) (letterOn line b, numbers) (brokenLine, numbers))
+    (cond (isDigit b) (digitFed line numbers (b - 48)) (brokenLine, numbers)))

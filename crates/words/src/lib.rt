@@ -1,7 +1,7 @@
 // Words of text and decimal numbers, a character at a time: what the programs that read and print calls share.
 ghost use mathlib.Core.Path.{_≡_};
 ghost use Prim.Native.Nat.{_+_, _*_, _/_, _%_};
-ghost use Rattle.words.specs.Words.{freshLine, brokenLine, letterOn, isBegun, firstLetter, otherLetters, isRoom, digitOn};
+ghost use Rattle.words.specs.Words.{freshLine, brokenLine, letterOn, isBegun, firstLetter, otherLetters, isRoom, digitOn, isLetter, isDigit, digitFed, blankFed, fedOf};
 
 // A line of input as it is read: a name, and numbers behind single blanks.
 pub struct Line {
@@ -24,7 +24,7 @@ pub fn fresh() -> Line
 }
 
 // Whatever follows, the line stays so: no number is begun behind the eighth.
-pub fn broken() -> Line
+fn broken() -> Line
     ensures { λ r. ⌜ r ≡ brokenLine ⌝ }
 {
     Line {
@@ -35,7 +35,7 @@ pub fn broken() -> Line
 }
 
 // A name has eight letters at most.
-pub fn with_letter(line: Line, b: u8) -> Line
+fn with_letter(line: Line, b: u8) -> Line
     ensures { λ r. ⌜ r ≡ letterOn line b ⌝ }
 {
     if line.name < 0x100000000000000 {
@@ -59,14 +59,14 @@ pub fn is_begun(line: Line) -> bool
 }
 
 // A number takes one more digit and stays below 2^64.
-pub fn is_room(x: u64, d: u8) -> bool
+fn is_room(x: u64, d: u8) -> bool
     ensures { λ r. ⌜ r ≡ isRoom x d ⌝ }
 {
     x <= (0xFFFFFFFFFFFFFFFF - d as u64) / 10
 }
 
 // A number with one more digit, where there is room.
-pub fn with_digit(x: u64, d: u8) -> u64
+fn with_digit(x: u64, d: u8) -> u64
     ensures { λ r. ⌜ r ≡ digitOn x d ⌝ }
 {
     if x <= (0xFFFFFFFFFFFFFFFF - d as u64) / 10 {
@@ -100,4 +100,80 @@ pub fn low_8(x: u64) -> u8
     ensures { λ r. ⌜ r ≡ x % 256 ⌝ }
 {
     (x % 256) as u8
+}
+
+fn is_letter(b: u8) -> bool
+    ensures { λ r. ⌜ r ≡ isLetter b ⌝ }
+{
+    b'a' <= b && b <= b'z'
+}
+
+fn is_digit(b: u8) -> bool
+    ensures { λ r. ⌜ r ≡ isDigit b ⌝ }
+{
+    b'0' <= b && b <= b'9'
+}
+
+// A digit of the number begun last.
+fn digit_fed(line: Line, numbers: &mut [u64; 8], d: u8) -> Line
+    ensures line { λ r. ⌜ r ≡ digitFed line (now (numbers .entry)) d .0 ⌝ }
+    ensures left { λ _. ⌜ now (numbers .exit) ≡ digitFed line (now (numbers .entry)) d .1 ⌝ }
+{
+    let count = line.count;
+    if count < 1 {
+        return broken();
+    }
+    if 8 < count {
+        return broken();
+    }
+    let x = numbers[count - 1];
+    if is_room(x, d) {
+        numbers[count - 1] = with_digit(x, d);
+        return Line {
+            name: line.name,
+            count,
+            whole: true,
+        };
+    }
+    broken()
+}
+
+// A blank ends the name or a number, and begins the next of eight numbers.
+fn blank_fed(line: Line, numbers: &mut [u64; 8]) -> Line
+    ensures line { λ r. ⌜ r ≡ blankFed line (now (numbers .entry)) .0 ⌝ }
+    ensures left { λ _. ⌜ now (numbers .exit) ≡ blankFed line (now (numbers .entry)) .1 ⌝ }
+{
+    let count = line.count;
+    if 8 <= count {
+        return broken();
+    }
+    if line.whole {
+        numbers[count] = 0;
+        return Line {
+            name: line.name,
+            count: count + 1,
+            whole: false,
+        };
+    }
+    broken()
+}
+
+// A line after one more byte, and its numbers.
+pub fn fed(line: Line, numbers: &mut [u64; 8], b: u8) -> Line
+    ensures line { λ r. ⌜ r ≡ fedOf line (now (numbers .entry)) b .0 ⌝ }
+    ensures left { λ _. ⌜ now (numbers .exit) ≡ fedOf line (now (numbers .entry)) b .1 ⌝ }
+{
+    if b == b' ' {
+        return blank_fed(line, numbers);
+    }
+    if line.count == 0 {
+        if is_letter(b) {
+            return with_letter(line, b);
+        }
+        return broken();
+    }
+    if is_digit(b) {
+        return digit_fed(line, numbers, b - b'0');
+    }
+    broken()
 }

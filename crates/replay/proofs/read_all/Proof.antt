@@ -1,4 +1,4 @@
--- `replay::read_all` is safe and ends: the measure is the bytes that are left. Assumes nothing.
+-- `replay::read_all` is safe and ends: the measure is the lines that are left. Assumes nothing.
 use mathlib.Core.Path.{_≡_, refl}
 use lib.ListN.{length}
 use borrow.Author.Needs.{needs}
@@ -24,13 +24,16 @@ read-all-spec =
     Inv-loop
     μ-loop
     (λ c κs. search needs)
-    (λ c κs. search needs)
     loop-holds
     (λ c κs. search needs)
+    (λ c κs. search needs)
     (λ c. search needs)
     (λ c. search needs)
     (λ c. search needs)
     (λ c κs. search needs)
+    (λ c. search needs)
+    (λ c. search needs)
+    (λ c. search needs)
     (λ c. search needs)
     (λ c. search needs)
     (λ c. search needs)

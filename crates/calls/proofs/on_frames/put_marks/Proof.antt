@@ -1,0 +1,45 @@
+-- `calls::on_frames::put_marks` meets its contract: the marks before a place and those still to come are the whole. Assumes nothing.
+use Prim.Native.Nat.{ℕ, _+_, _-_}
+use mathlib.Core.Path.{_≡_, refl, sym, ap, _∙_}
+use native.Mathlib.Omega.{arith}
+use lib.ListN.{length, set}
+use Rattle.calls.specs.OnFrames.{marked}
+use Rattle.calls.proofs.Marks.{laid, laid-next, laid-all}
+use borrow.Author.Needs.{needs}
+use Rattle.calls.proofs.on_frames.put_marks.Statement.{statement}
+use Rattle.calls.proofs.on_frames.put_marks.Tie as tie
+
+abbrev Inv-loop : tie.InvT-loop
+Inv-loop lent₀ i₀ lent i = (length lent ≡ length lent₀) × (laid lent i ≡ marked 0 lent₀)
+
+abbrev μ-loop : tie.MeasureT-loop
+μ-loop lent₀ i₀ lent i = length lent₀ - i
+
+loop-holds : tie.Need-loop-holds Inv-loop μ-loop
+loop-holds c = (refl, refl)
+
+loop-again : tie.Need-loop-again Inv-loop μ-loop
+loop-again c =
+    let loop = c .before .before .loop in
+    let lent = loop .lent in
+    let i = loop .i in
+    (search needs, ap (λ (x : ℕ). laid (set lent i x) (i + 1)) (c .mark-of .ensures) ∙ laid-next lent i (search needs) ∙ loop .inv .1)
+
+returns : tie.Need-returns Inv-loop μ-loop
+returns c = let loop = c .before .loop in sym (laid-all (loop .lent) (loop .i) (search needs)) ∙ loop .inv .1
+
+pub put-marks-spec : {M : Type 1} → statement M
+put-marks-spec =
+    tie.close
+    (tie.spec
+    Inv-loop
+    μ-loop
+    loop-holds
+    (λ c κs. search needs)
+    (λ c. search needs)
+    (λ c. search needs)
+    (λ c. search needs)
+    (λ c. search needs)
+    loop-again
+    (λ c. search needs)
+    returns)

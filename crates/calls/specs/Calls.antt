@@ -1,0 +1,96 @@
+-- The calls of README's "The call language", in its order: the name and the numbers of each, and which of them a line is.
+use Prim.Native.Nat.{ℕ, _+_, _-_, _^_}
+use Prim.Native.Char.{Char}
+use mathlib.Core.Bool.{Bool, true, false, cond, _&&_}
+use mathlib.Core.List.{List, [], _∷_}
+use lib.Dec.{leb, eqb}
+use lib.ListN.{getD, length}
+use Rattle.words.specs.declared.Line.{Line}
+use Rattle.answers.specs.Answers.{word}
+
+-- the least and the largest that a number may be
+abbrev pub Range : Type 0
+Range = ℕ × ℕ
+
+abbrev pub upTo : ℕ → Range
+upTo most = (0, most)
+
+abbrev pub slot : Range
+slot = upTo 7
+
+-- a level or a toggle
+abbrev pub flag : Range
+flag = upTo 1
+
+abbrev pub byte : Range
+byte = upTo 255
+
+-- a protocol, a rate, a duration or a count
+abbrev pub word32 : Range
+word32 = upTo (2 ^ 32 - 1)
+
+abbrev pub word64 : Range
+word64 = upTo (2 ^ 64 - 1)
+
+abbrev pub room : Range
+room = upTo 100
+
+abbrev pub polls : Range
+polls = (1, 1000000)
+
+-- a name, its letters as digits of base 256, and the range of each number
+pub record Call : Type 0 where
+  pub name : ℕ
+  pub numbers : List Range
+
+abbrev pub call : List Char → List Range → Call
+call letters numbers = record { name = word letters; numbers = numbers }
+
+abbrev pub calls : List Call
+calls =
+    call ("s" ∷ "p" ∷ "a" ∷ "n" ∷ "s" ∷ []) (word32 ∷ word32 ∷ [])
+    ∷ call ("l" ∷ "o" ∷ "o" ∷ "k" ∷ "u" ∷ "p" ∷ []) (word32 ∷ word32 ∷ word64 ∷ [])
+    ∷ call ("e" ∷ "n" ∷ "c" ∷ "o" ∷ "d" ∷ "e" ∷ []) (word32 ∷ word32 ∷ byte ∷ byte ∷ byte ∷ flag ∷ room ∷ [])
+    ∷ call ("o" ∷ "p" ∷ "e" ∷ "n" ∷ []) (slot ∷ word32 ∷ word32 ∷ [])
+    ∷ call ("e" ∷ "v" ∷ "e" ∷ "n" ∷ "t" ∷ []) (slot ∷ flag ∷ word32 ∷ [])
+    ∷ call ("t" ∷ "o" ∷ "t" ∷ "a" ∷ "l" ∷ []) (slot ∷ flag ∷ word32 ∷ [])
+    ∷ call ("e" ∷ "d" ∷ "g" ∷ "e" ∷ []) (slot ∷ flag ∷ word32 ∷ [])
+    ∷ call ("c" ∷ "o" ∷ "m" ∷ "m" ∷ "a" ∷ "n" ∷ "d" ∷ []) (slot ∷ [])
+    ∷ call ("r" ∷ "e" ∷ "s" ∷ "e" ∷ "t" ∷ []) (slot ∷ [])
+    ∷ call ("p" ∷ "o" ∷ "l" ∷ "l" ∷ "e" ∷ "d" ∷ []) (slot ∷ word32 ∷ word32 ∷ [])
+    ∷ call ("p" ∷ "o" ∷ "l" ∷ "l" ∷ []) (slot ∷ flag ∷ polls ∷ [])
+    ∷ call ("i" ∷ "d" ∷ "l" ∷ "e" ∷ []) (slot ∷ word32 ∷ [])
+    ∷ []
+
+abbrev pub isIn : Range → ℕ → Bool
+isIn range n = leb (range .0) n && leb n (range .1)
+
+-- the numbers from a place on are in their ranges
+abbrev pub areFrom : ℕ → List Range → List ℕ → Bool
+areFrom place [] ns = true
+areFrom place (range ∷ ranges) ns = isIn range (getD ns place 0) && areFrom (place + 1) ranges ns
+
+-- the line is that name and so many numbers
+abbrev pub isNamed : Line → Call → Bool
+isNamed line c = line .whole && eqb (line .name) (c .name) && eqb (line .count) (length (c .numbers))
+
+abbrev pub isCall : Line → List ℕ → Call → Bool
+isCall line ns c = isNamed line c && areFrom 0 (c .numbers) ns
+
+-- the place of the first call that a line is; with none, the place behind the last
+unfoldable pub firstIn : Line → List ℕ → List Call → ℕ → ℕ
+firstIn line ns [] place = place
+firstIn line ns (c ∷ cs) place = cond (isCall line ns c) place (firstIn line ns cs (place + 1))
+
+unfoldable pub callOf : Line → List ℕ → ℕ
+callOf line ns = firstIn line ns calls 0
+
+abbrev pub noCall : Call
+noCall = record { name = 0; numbers = [] }
+
+-- for the tables in the code: the call at a place, and the range of its number at a place
+abbrev pub callAt : ℕ → Call
+callAt place = getD calls place noCall
+
+abbrev pub rangeAt : ℕ → ℕ → Range
+rangeAt place number = getD (callAt place .numbers) number word64

@@ -1,0 +1,4 @@
+pub mod Calls
+pub mod OnSpans
+pub mod OnSlots
+pub mod OnFrames

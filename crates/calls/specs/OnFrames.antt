@@ -1,0 +1,42 @@
+-- What encode answers, and what it leaves in the places that are lent: each holds a mark of its own before the call, so that a place that is left alone shows.
+use Prim.Native.Nat.{ℕ, _+_, _%_, _^_}
+use mathlib.Core.Bool.{cond}
+use mathlib.Core.List.{List, [], _∷_}
+use lib.Dec.{eqb}
+use lib.ListN.{getD, drop}
+use Rattle.frames.specs.declared.Encoded.{Encoded}
+use Rattle.frames.specs.declared.Encoded.the-variants as encoded
+use Rattle.receiver.specs.Encoder.{encodedBy, leftBy, frameBy}
+
+abbrev pub mark : ℕ → ℕ
+mark place = 4000000000 + place % 1000
+
+-- as many marks as there are places, from a place on
+abbrev pub marked : ℕ → List ℕ → List ℕ
+marked place [] = []
+marked place (x ∷ xs) = mark place ∷ marked (place + 1) xs
+
+-- how many places hold their mark, from a place on
+abbrev pub marksIn : ℕ → List ℕ → ℕ
+marksIn place [] = 0
+marksIn place (x ∷ xs) = cond (eqb x (mark place)) 1 0 + marksIn (place + 1) xs
+
+unfoldable pub keptFrom : List ℕ → ℕ → ℕ
+keptFrom lent from = marksIn from (drop from lent)
+
+-- how many durations were written
+abbrev pub writtenOf : Encoded → ℕ
+writtenOf (encoded.Wrote count) = count
+writtenOf (encoded.Refused number) = 0
+writtenOf (encoded.Short needed) = 0
+
+-- encode PROTOCOL RATE ADDRESS COMMAND START TOGGLE ROOM
+abbrev pub frameAt : List ℕ → List ℕ
+frameAt n =
+    frameBy (getD n 0 0 % 2 ^ 32) (getD n 1 0 % 2 ^ 32) (getD n 2 0 % 256) (getD n 3 0 % 256) (getD n 4 0 % 256) (eqb (getD n 5 0) 1)
+
+unfoldable pub encodedAt : List ℕ → List ℕ → Encoded
+encodedAt n lent = encodedBy (getD n 0 0 % 2 ^ 32) (getD n 1 0 % 2 ^ 32) (marked 0 lent) (frameAt n)
+
+unfoldable pub leftAt : List ℕ → List ℕ → List ℕ
+leftAt n lent = leftBy (getD n 0 0 % 2 ^ 32) (getD n 1 0 % 2 ^ 32) (marked 0 lent) (frameAt n)

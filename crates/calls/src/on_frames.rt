@@ -1,0 +1,74 @@
+// The call on frames: encode PROTOCOL RATE ADDRESS COMMAND START TOGGLE ROOM.
+use frames::Encoded;
+use words::low_8;
+use words::low_32;
+ghost use mathlib.Core.Path.{_≡_};
+ghost use mathlib.Core.Bool.{cond};
+ghost use Prim.Native.Nat.{_≤_};
+ghost use lib.Dec.{eqb};
+ghost use Rattle.calls.specs.OnFrames.{mark, marked, keptFrom, writtenOf, encodedAt, leftAt};
+
+// What a place holds before the call.
+fn mark_of(place: usize) -> u32
+    ensures { λ r. ⌜ r ≡ mark place ⌝ }
+{
+    4000000000 + (place % 1000) as u32
+}
+
+fn put_marks(lent: &mut [u32])
+    ensures { λ _. ⌜ now (lent .exit) ≡ marked 0 (now (lent .entry)) ⌝ }
+{
+    let mut i: usize = 0;
+    while i < lent.len() {
+        lent[i] = mark_of(i);
+        i += 1;
+    }
+}
+
+// 1 where a place holds its mark, else 0.
+fn kept_at(x: u32, place: usize) -> usize
+    ensures { λ r. ⌜ (r ≡ cond (eqb x (mark place)) 1 0) × (r ≤ 1) ⌝ }
+{
+    if x == mark_of(place) { 1 } else { 0 }
+}
+
+// How many places from one on hold their mark.
+pub fn kept(lent: &[u32], from: usize) -> usize
+    ensures { λ r. ⌜ r ≡ keptFrom (now (lent .entry)) from ⌝ }
+{
+    let mut count: usize = 0;
+    let mut i = from;
+    while i < lent.len() {
+        count += kept_at(lent[i], i);
+        i += 1;
+    }
+    count
+}
+
+// How many durations were written.
+pub fn written(encoded: Encoded) -> usize
+    ensures { λ r. ⌜ r ≡ writtenOf encoded ⌝ }
+{
+    match encoded {
+        Encoded::Wrote(count) => count,
+        Encoded::Refused(_) => 0,
+        Encoded::Short(_) => 0,
+    }
+}
+
+// Marks the places that are lent, and encodes into them.
+pub fn encode(n: &[u64; 8], lent: &mut [u32]) -> Encoded
+    ensures answer { λ r. ⌜ r ≡ encodedAt (now (n .entry)) (now (lent .entry)) ⌝ }
+    ensures left { λ _. ⌜ now (lent .exit) ≡ leftAt (now (n .entry)) (now (lent .entry)) ⌝ }
+{
+    put_marks(lent);
+    receiver::encoder::encode(
+        low_32(n[0]),
+        low_32(n[1]),
+        low_8(n[2]),
+        low_8(n[3]),
+        low_8(n[4]),
+        n[5] == 1,
+        lent,
+    )
+}

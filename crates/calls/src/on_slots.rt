@@ -1,0 +1,140 @@
+// The calls on slots: open, event, total, edge, command and reset on a decoder, polled, poll and idle on a polled receiver.
+use crate::on_spans::said_of;
+use answers::Said;
+use slots::Ask;
+use slots::Done;
+use slots::Head;
+use slots::Slot;
+use slots::asked;
+use slots::closed;
+use slots::head_of;
+use slots::opened;
+use words::low_32;
+ghost use mathlib.Core.Path.{_≡_};
+ghost use Prim.Native.Nat.{_<_};
+ghost use lib.Dec.{eqb};
+ghost use Rattle.calls.specs.OnSlots.{allClosed, placeOf, askOf, onSlot, isEdge, answeredBy, isOnSlot, elsewhere, answeredAt};
+
+// Eight slots of decoders, then eight of polled receivers.
+pub struct Slots {
+    pub slots: [Slot; 16],
+}
+
+// What a call answers. An edge on an open slot tells its head first.
+pub struct Told {
+    pub is_edge: bool,
+    pub head: Head,
+    pub said: Said,
+}
+
+// What a call answers, and the slots after it.
+pub struct Outcome {
+    pub told: Told,
+    pub slots: Slots,
+}
+
+pub fn all_closed() -> Slots
+    ensures { λ r. ⌜ r ≡ allClosed ⌝ }
+{
+    let s = closed();
+    Slots {
+        slots: [s, s, s, s, s, s, s, s, s, s, s, s, s, s, s, s],
+    }
+}
+
+// Where the slot of a call stands.
+fn place_of(call: usize, slot: u64) -> usize
+    ensures { λ r. ⌜ (r ≡ placeOf call slot) × (r < 16) ⌝ }
+{
+    let k = (slot % 8) as usize;
+    if call < crate::POLLED { k } else { k + 8 }
+}
+
+// An edge goes on as event_total.
+fn ask_of(call: usize) -> Ask
+    ensures { λ r. ⌜ r ≡ askOf call ⌝ }
+{
+    match call {
+        crate::EVENT => Ask::Event,
+        crate::TOTAL => Ask::Total,
+        crate::EDGE => Ask::Total,
+        crate::RESET => Ask::Reset,
+        crate::POLL => Ask::Poll,
+        _ => Ask::Command,
+    }
+}
+
+// The numbers are those behind the slot's. That of idle stands where others have a level.
+fn on_slot(call: usize, slot: Slot, a: u32, b: u32) -> Done
+    ensures { λ r. ⌜ r ≡ onSlot call slot a b ⌝ }
+{
+    if call == crate::OPEN {
+        return opened(slot, a, b);
+    }
+    if call == crate::POLLED {
+        return opened(slot, a, b);
+    }
+    if call == crate::IDLE {
+        return asked(Ask::Idle, slot, false, a);
+    }
+    asked(ask_of(call), slot, a == 1, b)
+}
+
+fn is_edge(call: usize, slot: Slot) -> bool
+    ensures { λ r. ⌜ r ≡ isEdge call slot ⌝ }
+{
+    call == crate::EDGE && slot.is_open
+}
+
+fn answered_by(call: usize, place: usize, a: u32, b: u32, slots: Slots) -> Outcome
+    requires { ⌜ place < 16 ⌝ }
+    ensures { λ r. ⌜ r ≡ answeredBy call place a b slots ⌝ }
+{
+    let mut after = slots;
+    let slot = after.slots[place];
+    let head = head_of(slot, a == 1, b);
+    let done = on_slot(call, slot, a, b);
+    let said = done.said;
+    let left = done.slot;
+    after.slots[place] = left;
+    let told = Told {
+        is_edge: is_edge(call, slot),
+        head,
+        said,
+    };
+    Outcome { told, slots: after }
+}
+
+// From open to idle.
+fn is_on_slot(call: usize) -> bool
+    ensures { λ r. ⌜ r ≡ isOnSlot call ⌝ }
+{
+    crate::OPEN <= call && call <= crate::IDLE
+}
+
+// A call that asks no slot tells one text.
+fn elsewhere(said: Said, slots: Slots) -> Outcome
+    ensures { λ r. ⌜ r ≡ elsewhere said slots ⌝ }
+{
+    let head = Head {
+        status: said,
+        command: said,
+    };
+    let told = Told {
+        is_edge: false,
+        head,
+        said,
+    };
+    Outcome { told, slots }
+}
+
+// The first number of a call on a slot is the slot's.
+pub fn answered(call: usize, n: &[u64; 8], slots: Slots) -> Outcome
+    ensures { λ r. ⌜ r ≡ answeredAt call (now (n .entry)) slots ⌝ }
+{
+    if is_on_slot(call) {
+        let place = place_of(call, n[0]);
+        return answered_by(call, place, low_32(n[1]), low_32(n[2]), slots);
+    }
+    elsewhere(said_of(call, n), slots)
+}

@@ -1,0 +1,30 @@
+// What a call that asks no slot answers, where that is one text.
+use answers::Said;
+use answers::is_taken;
+use answers::not_understood;
+use answers::of_answer;
+use answers::of_found;
+use words::low_32;
+ghost use mathlib.Core.Path.{_≡_};
+ghost use Rattle.calls.specs.OnSpans.{lookupSaid, saidOf};
+
+fn lookup_said(protocol: u32, rate: u32, duration: u64) -> Said
+    ensures { λ r. ⌜ r ≡ lookupSaid protocol rate duration ⌝ }
+{
+    let built = spans::spans_of(protocol, rate);
+    let answer = built.answer;
+    let s = built.spans;
+    if is_taken(answer) {
+        return of_found(spans::lookup(s, duration));
+    }
+    of_answer(answer)
+}
+
+pub fn said_of(call: usize, n: &[u64; 8]) -> Said
+    ensures { λ r. ⌜ r ≡ saidOf call (now (n .entry)) ⌝ }
+{
+    if call == crate::LOOKUP {
+        return lookup_said(low_32(n[0]), low_32(n[1]), n[2]);
+    }
+    not_understood()
+}
