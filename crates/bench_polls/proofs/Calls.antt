@@ -26,7 +26,6 @@ use denote.Enum.Laws as EL
 use denote.Triple.Spec.{tripleOf}
 use denote.Triple.Statement.{Contract}
 use denote.Triple.Clauses.{ensured, lasts}
-use denote.Triple.Walked.{says}
 use Rattle.polled.specs.Polled.{pollOf}
 use Rattle.polled.specs.declared.Polled.{Polled}
 use Rattle.reports.specs.declared.Report.{Report}

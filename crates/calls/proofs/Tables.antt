@@ -1,21 +1,14 @@
 -- The code's tables are the definition's, entry by entry: each law is one test that is computed over a whole table. Assumes nothing.
 use Prim.Native.Nat.{ℕ, zero, suc, _<_, _≤_}
 use mathlib.Core.Path.{_≡_, refl}
-use mathlib.Core.Bool.{Bool, true, false, cond, _&&_}
+use mathlib.Core.Bool.{Bool, true, cond, _&&_}
 use mathlib.Core.List.{List, [], _∷_, map}
 use native.Mathlib.Nat.{not-suc-le-zero, le-of-suc-le-suc}
 use lib.Dec.{leb, eqb}
 use lib.ListN.{getD, length}
 use borrow.Author.Tests.{eqb-true, leb-true}
+use Rattle.spans.proofs.Within.{both-left, both-right}
 use Rattle.calls.specs.Calls.{Call, calls, callAt, rangeAt, word64}
-
-pub both-left : (a b : Bool) → (a && b) ≡ true → a ≡ true
-both-left true b e = cc
-both-left false b e = e
-
-pub both-right : (a b : Bool) → (a && b) ≡ true → b ≡ true
-both-right true b e = e
-both-right false b e = cc
 
 -- the test holds at each place below a number
 abbrev allBelow : (ℕ → Bool) → ℕ → Bool

@@ -7,7 +7,7 @@ use spans::Answer;
 use spans::Spans;
 ghost use mathlib.Core.Path.{_≡_};
 ghost use Prim.Native.Nat.{_≤_};
-ghost use Rattle.denon.specs.Decoder.{pastEnd, fromIdle, fromLast, fromBit, nextOf, kept, stood, refused, answered, fresh, eventIn, commandOf, resetOf, totalIn, newAt, eventOf, commandIn, resetIn, eventTotal};
+ghost use Rattle.denon.specs.Decoder.{pastEnd, fromIdle, fromLast, fromBit, nextOf, kept, stood, refused, answered, fresh, eventIn, commandOf, resetOf, ruled, totalIn, newAt, eventOf, commandIn, resetIn, eventTotal};
 
 pub enum DenonState {
     Idle,
@@ -281,17 +281,10 @@ pub fn reset_of(m: DenonMemory) -> DenonMemory
     fresh()
 }
 
-// The rule of `reports` over event_in. What is kept is made anew, so that it stays in registers.
-pub fn total_in<'a>(
-    low: &'a [u32; 8],
-    high: &'a [u32; 8],
-    m: DenonMemory,
-    rising: bool,
-    duration: u32,
-) -> DenonTotalIn
-    ensures { λ r. ⌜ r ≡ totalIn (now (low .entry)) (now (high .entry)) m rising duration ⌝ }
+// The rule of `reports` over what event_in answers. What is kept is made anew, so that it stays in registers.
+fn ruled(event: DenonEventIn) -> DenonTotalIn
+    ensures { λ r. ⌜ r ≡ ruled event ⌝ }
 {
-    let event = event_in(low, high, m, rising, duration);
     let status = event.status;
     let after = event.memory;
     let report = reports::report_of(status, command_of(after));
@@ -302,6 +295,18 @@ pub fn total_in<'a>(
         let memory = kept(after, after.saved);
         DenonTotalIn { report, memory }
     }
+}
+
+pub fn total_in<'a>(
+    low: &'a [u32; 8],
+    high: &'a [u32; 8],
+    m: DenonMemory,
+    rising: bool,
+    duration: u32,
+) -> DenonTotalIn
+    ensures { λ r. ⌜ r ≡ totalIn (now (low .entry)) (now (high .entry)) m rising duration ⌝ }
+{
+    ruled(event_in(low, high, m, rising, duration))
 }
 
 impl DenonDecoder {

@@ -8,7 +8,7 @@ use spans::Answer;
 use spans::Spans;
 ghost use mathlib.Core.Path.{_≡_};
 ghost use Prim.Native.Nat.{_≤_};
-ghost use Rattle.nec.specs.Decoder.{pastEnd, fromInit, fromReceiving, nextOf, kept, stood, refused, answered, fresh, eventIn, commandOf, resetOf, totalIn, newAt, eventOf, commandIn, resetIn, eventTotal};
+ghost use Rattle.nec.specs.Decoder.{pastEnd, fromInit, fromReceiving, nextOf, kept, stood, refused, answered, fresh, eventIn, commandOf, resetOf, ruled, totalIn, newAt, eventOf, commandIn, resetIn, eventTotal};
 
 pub enum NecState {
     Init,
@@ -321,17 +321,10 @@ pub fn reset_of(m: NecMemory) -> NecMemory
     }
 }
 
-// The rule of `reports` over event_in. What is kept is made anew, so that it stays in registers.
-pub fn total_in<'a>(
-    low: &'a [u32; 8],
-    high: &'a [u32; 8],
-    m: NecMemory,
-    rising: bool,
-    duration: u32,
-) -> NecTotalIn
-    ensures { λ r. ⌜ r ≡ totalIn (now (low .entry)) (now (high .entry)) m rising duration ⌝ }
+// The rule of `reports` over what event_in answers. What is kept is made anew, so that it stays in registers.
+fn ruled(event: NecEventIn) -> NecTotalIn
+    ensures { λ r. ⌜ r ≡ ruled event ⌝ }
 {
-    let event = event_in(low, high, m, rising, duration);
     let status = event.status;
     let after = event.memory;
     let report = reports::report_of(status, command_of(after));
@@ -342,6 +335,18 @@ pub fn total_in<'a>(
         let memory = kept(after, after.saved);
         NecTotalIn { report, memory }
     }
+}
+
+pub fn total_in<'a>(
+    low: &'a [u32; 8],
+    high: &'a [u32; 8],
+    m: NecMemory,
+    rising: bool,
+    duration: u32,
+) -> NecTotalIn
+    ensures { λ r. ⌜ r ≡ totalIn (now (low .entry)) (now (high .entry)) m rising duration ⌝ }
+{
+    ruled(event_in(low, high, m, rising, duration))
 }
 
 impl NecDecoder {

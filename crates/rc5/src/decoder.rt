@@ -8,7 +8,7 @@ use spans::Answer;
 use spans::Spans;
 ghost use mathlib.Core.Path.{_≡_};
 ghost use Prim.Native.Nat.{_≤_};
-ghost use Rattle.rc5.specs.Decoder.{pastEnd, fromIdle, gathered, fromData, counted, readFrom, refused, answered, fresh, eventIn, commandOf, resetOf, stood, totalIn, newAt, eventOf, commandIn, resetIn, eventTotal};
+ghost use Rattle.rc5.specs.Decoder.{pastEnd, fromIdle, gathered, fromData, counted, readFrom, refused, answered, fresh, eventIn, commandOf, resetOf, stood, ruled, totalIn, newAt, eventOf, commandIn, resetIn, eventTotal};
 
 pub enum Rc5State {
     Idle,
@@ -250,17 +250,10 @@ pub fn reset_of(m: Rc5Memory) -> Rc5Memory
     fresh()
 }
 
-// The rule of `reports` over event_in.
-pub fn total_in<'a>(
-    low: &'a [u32; 8],
-    high: &'a [u32; 8],
-    m: Rc5Memory,
-    rising: bool,
-    duration: u32,
-) -> Rc5TotalIn
-    ensures { λ r. ⌜ r ≡ totalIn (now (low .entry)) (now (high .entry)) m rising duration ⌝ }
+// The rule of `reports` over what event_in answers.
+fn ruled(event: Rc5EventIn) -> Rc5TotalIn
+    ensures { λ r. ⌜ r ≡ ruled event ⌝ }
 {
-    let event = event_in(low, high, m, rising, duration);
     let status = event.status;
     let after = event.memory;
     let report = reports::report_of(status, command_of(after));
@@ -273,6 +266,18 @@ pub fn total_in<'a>(
             memory: after,
         }
     }
+}
+
+pub fn total_in<'a>(
+    low: &'a [u32; 8],
+    high: &'a [u32; 8],
+    m: Rc5Memory,
+    rising: bool,
+    duration: u32,
+) -> Rc5TotalIn
+    ensures { λ r. ⌜ r ≡ totalIn (now (low .entry)) (now (high .entry)) m rising duration ⌝ }
+{
+    ruled(event_in(low, high, m, rising, duration))
 }
 
 impl Rc5Decoder {

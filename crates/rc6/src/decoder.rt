@@ -9,7 +9,7 @@ use spans::Spans;
 ghost use mathlib.Core.Path.{_≡_};
 ghost use Prim.Native.Nat.{_≤_};
 ghost use Rattle.rc6.specs.declared.decoder.Rc6State.the-variants.{Idle, HeaderData, Data};
-ghost use Rattle.rc6.specs.Decoder.{pastEnd, isFall, isRise, isOdd, gathered, inState, fromIdle, fromLeading, fromLeadingPause, fromHeaderData, trailed, fromTrailing, fromData, clocked, counted, readFrom, refused, answered, stood, fresh, eventIn, commandOf, resetOf, totalIn, newAt, eventOf, commandIn, resetIn, eventTotal};
+ghost use Rattle.rc6.specs.Decoder.{pastEnd, isFall, isRise, isOdd, gathered, inState, fromIdle, fromLeading, fromLeadingPause, fromHeaderData, trailed, fromTrailing, fromData, clocked, counted, readFrom, refused, answered, stood, fresh, eventIn, commandOf, resetOf, ruled, totalIn, newAt, eventOf, commandIn, resetIn, eventTotal};
 
 pub enum Rc6State {
     Idle,
@@ -466,17 +466,10 @@ pub fn command_of(m: Rc6Memory) -> Report
     Report::Command(Command::Rc6(Rc6Command::unpack(m.data, m.toggle)))
 }
 
-// The rule of `reports` over event_in.
-pub fn total_in<'a>(
-    low: &'a [u32; 8],
-    high: &'a [u32; 8],
-    m: Rc6Memory,
-    rising: bool,
-    duration: u32,
-) -> Rc6TotalIn
-    ensures { λ r. ⌜ r ≡ totalIn (now (low .entry)) (now (high .entry)) m rising duration ⌝ }
+// The rule of `reports` over what event_in answers.
+fn ruled(event: Rc6EventIn) -> Rc6TotalIn
+    ensures { λ r. ⌜ r ≡ ruled event ⌝ }
 {
-    let event = event_in(low, high, m, rising, duration);
     let status = event.status;
     let after = event.memory;
     let report = reports::report_of(status, command_of(after));
@@ -489,6 +482,18 @@ pub fn total_in<'a>(
             memory: after,
         }
     }
+}
+
+pub fn total_in<'a>(
+    low: &'a [u32; 8],
+    high: &'a [u32; 8],
+    m: Rc6Memory,
+    rising: bool,
+    duration: u32,
+) -> Rc6TotalIn
+    ensures { λ r. ⌜ r ≡ totalIn (now (low .entry)) (now (high .entry)) m rising duration ⌝ }
+{
+    ruled(event_in(low, high, m, rising, duration))
 }
 
 impl Rc6Decoder {

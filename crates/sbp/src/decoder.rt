@@ -9,7 +9,7 @@ use spans::Spans;
 ghost use mathlib.Core.Path.{_≡_};
 ghost use Prim.Native.Nat.{_≤_};
 ghost use Rattle.sbp.specs.declared.decoder.SbpState.the-variants.{Init, Error};
-ghost use Rattle.sbp.specs.Decoder.{pastEnd, memoryOf, fromInit, fromAddress, fromDivider, fromCommand, nextOf, kept, stood, refused, answered, fresh, eventIn, commandOf, resetOf, totalIn, newAt, eventOf, commandIn, resetIn, eventTotal};
+ghost use Rattle.sbp.specs.Decoder.{pastEnd, memoryOf, fromInit, fromAddress, fromDivider, fromCommand, nextOf, kept, stood, refused, answered, fresh, eventIn, commandOf, resetOf, ruled, totalIn, newAt, eventOf, commandIn, resetIn, eventTotal};
 
 pub enum SbpState {
     Init,
@@ -405,17 +405,10 @@ pub fn reset_of(m: SbpMemory) -> SbpMemory
     fresh()
 }
 
-// The rule of `reports` over event_in. What is kept is made anew, so that it stays in registers.
-pub fn total_in<'a>(
-    low: &'a [u32; 8],
-    high: &'a [u32; 8],
-    m: SbpMemory,
-    rising: bool,
-    duration: u32,
-) -> SbpTotalIn
-    ensures { λ r. ⌜ r ≡ totalIn (now (low .entry)) (now (high .entry)) m rising duration ⌝ }
+// The rule of `reports` over what event_in answers. What is kept is made anew, so that it stays in registers.
+fn ruled(event: SbpEventIn) -> SbpTotalIn
+    ensures { λ r. ⌜ r ≡ ruled event ⌝ }
 {
-    let event = event_in(low, high, m, rising, duration);
     let status = event.status;
     let after = event.memory;
     let report = reports::report_of(status, command_of(after));
@@ -426,6 +419,18 @@ pub fn total_in<'a>(
         let memory = kept(after, after.saved);
         SbpTotalIn { report, memory }
     }
+}
+
+pub fn total_in<'a>(
+    low: &'a [u32; 8],
+    high: &'a [u32; 8],
+    m: SbpMemory,
+    rising: bool,
+    duration: u32,
+) -> SbpTotalIn
+    ensures { λ r. ⌜ r ≡ totalIn (now (low .entry)) (now (high .entry)) m rising duration ⌝ }
+{
+    ruled(event_in(low, high, m, rising, duration))
 }
 
 impl SbpDecoder {

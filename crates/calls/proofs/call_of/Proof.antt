@@ -1,6 +1,6 @@
 -- `calls::call_of` meets its contract. The loop's invariant: the line is none of the calls before this one. Assumes nothing.
 use Prim.Native.Nat.{_≤_, _-_}
-use mathlib.Core.Path.{_≡_, refl, sym, _∙_}
+use mathlib.Core.Path.{_≡_, sym, _∙_}
 use native.Mathlib.Omega.{arith}
 use borrow.Author.Needs.{needs}
 use Rattle.calls.specs.Calls.{callOf}

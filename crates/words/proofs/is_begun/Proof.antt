@@ -1,6 +1,5 @@
 -- `words::is_begun` meets its contract: its test picks the definition's branch. Assumes nothing.
 use borrow.Author.Tests.{lt-ltb, le-ltb}
-use borrow.Author.Needs.{needs}
 use Rattle.words.proofs.is_begun.Statement.{statement}
 use Rattle.words.proofs.is_begun.Tie as tie
 

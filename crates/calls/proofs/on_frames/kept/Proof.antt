@@ -1,6 +1,6 @@
 -- `calls::on_frames::kept` meets its contract: what is counted and what is left to count are the whole. Assumes nothing.
 use Prim.Native.Nat.{_≤_, _+_, _-_}
-use mathlib.Core.Path.{_≡_, refl}
+use mathlib.Core.Path.{_≡_}
 use native.Mathlib.Omega.{arith}
 use lib.ListN.{length}
 use Rattle.calls.specs.OnFrames.{keptFrom}

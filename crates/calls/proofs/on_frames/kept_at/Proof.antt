@@ -1,5 +1,5 @@
 -- `calls::on_frames::kept_at` meets its contract: its test picks the definition's branch. Assumes nothing.
-use mathlib.Core.Path.{sym, _∙_}
+use mathlib.Core.Path.{sym}
 use borrow.Author.Tests.{eq-eqb, ne-eqb}
 use borrow.Author.Needs.{needs}
 use Rattle.calls.proofs.on_frames.kept_at.Statement.{statement}

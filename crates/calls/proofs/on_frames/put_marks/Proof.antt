@@ -1,7 +1,6 @@
 -- `calls::on_frames::put_marks` meets its contract: the marks before a place and those still to come are the whole. Assumes nothing.
 use Prim.Native.Nat.{ℕ, _+_, _-_}
 use mathlib.Core.Path.{_≡_, refl, sym, ap, _∙_}
-use native.Mathlib.Omega.{arith}
 use lib.ListN.{length, set}
 use Rattle.calls.specs.OnFrames.{marked}
 use Rattle.calls.proofs.Marks.{laid, laid-next, laid-all}
