@@ -14,11 +14,11 @@ use Rattle.reports.specs.declared.Fault.the-variants.{Address, Data}
 use Rattle.reports.specs.declared.Report.{Report}
 use Rattle.reports.specs.declared.Report.the-variants as report
 use Rattle.nec.specs.Decoder as nec
-use Rattle.nec.specs.Encoder.{necFrame}
+use Rattle.nec_encoder.specs.Encoder.{necFrame}
 use Rattle.rc5.specs.Decoder as rc5
-use Rattle.rc5.specs.Encoder.{rc5Frame}
+use Rattle.rc5_encoder.specs.Encoder.{rc5Frame}
 use Rattle.rc6.specs.Decoder as rc6
-use Rattle.rc6.specs.Encoder.{rc6Frame}
+use Rattle.rc6_encoder.specs.Encoder.{rc6Frame}
 use Rattle.sbp.specs.Decoder as sbp
 use Rattle.denon.specs.Decoder as denon
 

@@ -200,7 +200,7 @@ pub extern "C" fn bench_encode_nec(
         cmd,
         repeat: toggle,
     };
-    frames::encoded_length(nec::encoder::encode(command, rate, frame))
+    frames::encoded_length(nec_encoder::encode(command, rate, frame))
 }
 
 #[no_mangle]
@@ -221,7 +221,7 @@ pub extern "C" fn bench_encode_rc5(
         start,
         toggle,
     };
-    frames::encoded_length(rc5::encoder::encode(command, rate, frame))
+    frames::encoded_length(rc5_encoder::encode(command, rate, frame))
 }
 
 #[no_mangle]
@@ -237,5 +237,5 @@ pub extern "C" fn bench_encode_rc6(
     ensures left { λ _. ⌜ now (frame .exit) ≡ leftOf rate (now (frame .entry)) (rc6FrameOf addr cmd start toggle rate) ⌝ }
 {
     let command = Rc6Command { addr, cmd, toggle };
-    frames::encoded_length(rc6::encoder::encode(command, rate, frame))
+    frames::encoded_length(rc6_encoder::encode(command, rate, frame))
 }

@@ -24,14 +24,14 @@ use Rattle.reports.specs.declared.Report.{Report}
 use Rattle.reports.specs.declared.Report.the-variants as report
 use Rattle.reports.proofs.Run.{after-keeps}
 use Rattle.nec.specs.Decoder.{pastEnd, reachable, next, afterBit, nextOf, fromReceiving, memoryOf, stepIn, stood, ruled, newAt, edgeReport, edgeAfter, reportsOf, decoderAfter}
-use Rattle.nec.specs.Encoder.{frameOf, necFrame}
+use Rattle.nec_encoder.specs.Encoder.{frameOf, necFrame}
 use Rattle.nec.specs.declared.decoder.NecState.{NecState}
 use Rattle.nec.specs.declared.decoder.NecState.the-variants.{Init, Receiving, Done, RepeatDone, Error}
 use Rattle.nec.specs.declared.decoder.NecMemory.{NecMemory}
 use Rattle.nec.specs.declared.decoder.NecDecoder.{NecDecoder}
 use Rattle.nec.specs.declared.decoder.NecTotalIn.{NecTotalIn}
 use Rattle.nec.proofs.Laws.{total-taken, reachable-in-reach, run-reachable}
-use Rattle.nec.proofs.Frame.{length-frame}
+use Rattle.nec_encoder.proofs.Frame.{length-frame}
 use Rattle.promises.specs.Heard.{Near, none, more, Heard, NothingOrData, nothing, broken, necReceiver, EveryNecHeard}
 use Rattle.spans.proofs.Places.{placeAt, allRead, noneReads, reads-place, ends-place}
 use Rattle.promises.proofs.Bits.{low-more}

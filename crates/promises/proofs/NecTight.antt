@@ -14,7 +14,7 @@ use Rattle.commands.specs.declared.nec.NecCommand.{NecCommand}
 use Rattle.frames.specs.Frames.{pairsFrom}
 use Rattle.reports.specs.Run.{runReports, runAfter, alternating}
 use Rattle.nec.specs.Decoder.{stepIn, eventIn, totalIn}
-use Rattle.nec.specs.Encoder.{frameOf, necFrame}
+use Rattle.nec_encoder.specs.Encoder.{frameOf, necFrame}
 use Rattle.promises.specs.Heard.{Heard, NothingOrData, necReceiver}
 use Rattle.promises.proofs.Tight.{is-near, differ}
 

@@ -22,7 +22,7 @@ use Rattle.reports.specs.declared.Report.the-variants as report
 use Rattle.reports.proofs.Either.{either}
 use Rattle.reports.proofs.Run.{after-keeps}
 use Rattle.rc5.specs.Decoder.{pastEnd, memoryOf, afterBit, gathered, stepIn, stood, ruled, newAt, edgeReport, edgeAfter, decoderAfter}
-use Rattle.rc5.specs.Encoder.{pieceOf, piecesAfter, frameOf, rc5Frame}
+use Rattle.rc5_encoder.specs.Encoder.{pieceOf, piecesAfter, frameOf, rc5Frame}
 use Rattle.rc5.specs.declared.decoder.Rc5State.the-variants.{Data}
 use Rattle.rc5.specs.declared.decoder.Rc5Memory.{Rc5Memory}
 use Rattle.rc5.specs.declared.decoder.Rc5TotalIn.{Rc5TotalIn}

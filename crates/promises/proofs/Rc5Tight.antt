@@ -13,8 +13,8 @@ use Rattle.commands.specs.declared.Command.the-variants as command
 use Rattle.reports.specs.Run.{Edge, edge, runReports, runAfter, alternating}
 use Rattle.reports.specs.declared.Report.{Report}
 use Rattle.rc5.specs.Decoder.{stepIn, eventIn, totalIn, newAt, reportsOf, decoderAfter}
-use Rattle.rc5.specs.Encoder.{frameOf, piecesAfter, rc5Frame}
-use Rattle.rc5.proofs.Starred.{starred}
+use Rattle.rc5_encoder.specs.Encoder.{frameOf, piecesAfter, rc5Frame}
+use Rattle.rc5_encoder.proofs.Starred.{starred}
 use Rattle.promises.specs.Heard.{quiet, Heard, Nothing, rc5Receiver}
 use Rattle.promises.proofs.Tight.{is-near, differ}
 

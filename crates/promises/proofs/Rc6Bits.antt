@@ -14,8 +14,8 @@ use Rattle.commands.specs.declared.Command.the-variants as command
 use Rattle.frames.specs.Frames.{bitSet}
 use Rattle.reports.specs.Run.{runReports, alternating}
 use Rattle.reports.specs.declared.Status.the-variants as status
-use Rattle.rc6.specs.Encoder.{bitLevels, highestFirst, merged, inTicks}
-use Rattle.rc6.specs.EncoderSteps.{levelOf}
+use Rattle.rc6_encoder.specs.Encoder.{bitLevels, highestFirst, merged, inTicks}
+use Rattle.rc6_encoder.specs.EncoderSteps.{levelOf}
 use Rattle.rc6.specs.Decoder.{pastEnd, memoryOf, stepIn, afterData, statusOf, stood, ruled, eventIn, totalIn}
 use Rattle.rc6.specs.declared.decoder.Rc6State.the-variants.{Data}
 use Rattle.rc6.specs.declared.decoder.Rc6Memory.{Rc6Memory}

@@ -6,8 +6,8 @@ use mathlib.Core.Bool.{Bool, true, false, not, Bool·beq}
 use mathlib.Core.List.{List, [], _∷_, _++_}
 use Prim.Native.Nat.{ℕ, zero, suc}
 use Rattle.frames.specs.Frames.{bitSet}
-use Rattle.rc6.specs.Encoder.{Level, bitLevels, highestFirst, merged, inTicks}
-use Rattle.rc6.specs.EncoderSteps.{levelOf}
+use Rattle.rc6_encoder.specs.Encoder.{Level, bitLevels, highestFirst, merged, inTicks}
+use Rattle.rc6_encoder.specs.EncoderSteps.{levelOf}
 use Rattle.promises.proofs.Biphase.{turn, turns}
 
 -- the edge in the middle of a bit rises where the bit is 0: "1 as high low and 0 as low high"

@@ -16,7 +16,7 @@ use Rattle.reports.specs.Run.{Edge, edge, alternating}
 use Rattle.reports.specs.declared.Report.the-variants as report
 use Rattle.reports.proofs.Run.{after-keeps}
 use Rattle.reports.proofs.Either.{either}
-use Rattle.rc6.specs.Encoder.{high, bitLevels, highestFirst, levelsOf, merged, inTicks, frameOf, rc6Frame}
+use Rattle.rc6_encoder.specs.Encoder.{high, bitLevels, highestFirst, levelsOf, merged, inTicks, frameOf, rc6Frame}
 use Rattle.rc6.specs.Decoder.{pastEnd, memoryOf, readAt, stepIn, newAt, edgeReport, edgeAfter, reportsOf, decoderAfter}
 use Rattle.rc6.specs.declared.decoder.Rc6State.{Rc6State}
 use Rattle.rc6.specs.declared.decoder.Rc6State.the-variants.{Leading, LeadingPause, HeaderData, Trailing}

@@ -14,7 +14,7 @@ use Rattle.commands.specs.declared.Command.the-variants as command
 use Rattle.commands.specs.declared.rc6.Rc6Command.{Rc6Command}
 use Rattle.reports.specs.Run.{Edge, edge, runReports, runAfter, alternating}
 use Rattle.rc6.specs.Decoder.{stepIn, eventIn, totalIn}
-use Rattle.rc6.specs.Encoder.{highestFirst, levelsOf, merged, frameOf, rc6Frame}
+use Rattle.rc6_encoder.specs.Encoder.{highestFirst, levelsOf, merged, frameOf, rc6Frame}
 use Rattle.promises.specs.Heard.{Heard, Nothing, rc6Receiver}
 use Rattle.promises.proofs.Tight.{is-near, differ}
 use Rattle.promises.proofs.Rc6Heard.{rc6-heard}

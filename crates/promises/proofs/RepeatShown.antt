@@ -13,7 +13,7 @@ use Rattle.reports.specs.Run.{edge, runReports, alternating}
 use Rattle.reports.specs.declared.Report.{Report}
 use Rattle.reports.specs.declared.Report.the-variants.{Nothing}
 use Rattle.reports.proofs.Either.{either}
-use Rattle.nec.specs.Encoder.{frameOf}
+use Rattle.nec_encoder.specs.Encoder.{frameOf}
 use Rattle.nec.specs.Decoder as nec
 use Rattle.nec.specs.declared.decoder.NecDecoder.{NecDecoder}
 use Rattle.nec.specs.declared.decoder.NecMemory.{NecMemory}

@@ -19,8 +19,8 @@ use Rattle.receiver.specs.Decoder.{edgeAfter, reportsOf, decoderAfter}
 use Rattle.receiver.specs.Encoder.{encodeTaken, frameBy}
 use Rattle.receiver.specs.declared.decoder.Decoder.{Decoder}
 use Rattle.receiver.proofs.Laws.{of-nec, nec-reports, nec-after, of-rc5, rc5-reports, rc5-after, of-rc6, rc6-reports, rc6-after}
-use Rattle.rc5.proofs.Frame as rc5
-use Rattle.rc6.proofs.Frame as rc6
+use Rattle.rc5_encoder.proofs.Frame as rc5
+use Rattle.rc6_encoder.proofs.Frame as rc6
 use Rattle.promises.specs.Heard.{Receiver, Near, quiet, onlyAt, Heard}
 use Rattle.promises.specs.Heard.{necReceiver, rc5Receiver, rc6Receiver}
 use Rattle.promises.specs.Send.{wronged, edgesSent, noneYet, notedAll, summaryOf, heardOf, sentOf}

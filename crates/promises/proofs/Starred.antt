@@ -4,7 +4,7 @@ use Rattle.spans.specs.Spans.{spansOf}
 use Rattle.spans.proofs.Numbers.{nec-1063, nec-1064, nec-1176, nec-1177, rc6-1989, rc6-1990, rc6-2486, rc6-2487, rc5-0, rc6-0}
 use Rattle.commands.proofs.Starred.{nec-4-8}
 use Rattle.frames.specs.Frames.{encodedNumber, encodedLength}
-use Rattle.rc5.proofs.Starred.{starred-frame, starred-length, starred-short, starred-untouched}
+use Rattle.rc5_encoder.proofs.Starred.{starred-frame, starred-length, starred-short, starred-untouched}
 use Rattle.nec.proofs.Starred.{broken-frame-then-repeat}
 use Rattle.promises.specs.Totals.{atPairs, Tells}
 use Rattle.promises.specs.Starred.{Starred}

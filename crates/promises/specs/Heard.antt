@@ -15,13 +15,13 @@ use Rattle.reports.specs.declared.Fault.the-variants.{Data}
 use Rattle.reports.specs.declared.Report.{Report}
 use Rattle.reports.specs.declared.Report.the-variants as report
 use Rattle.nec.specs.Decoder as nec
-use Rattle.nec.specs.Encoder.{necFrame}
+use Rattle.nec_encoder.specs.Encoder.{necFrame}
 use Rattle.nec.specs.declared.decoder.NecDecoder.{NecDecoder}
 use Rattle.rc5.specs.Decoder as rc5
-use Rattle.rc5.specs.Encoder.{rc5Frame}
+use Rattle.rc5_encoder.specs.Encoder.{rc5Frame}
 use Rattle.rc5.specs.declared.decoder.Rc5Decoder.{Rc5Decoder}
 use Rattle.rc6.specs.Decoder as rc6
-use Rattle.rc6.specs.Encoder.{rc6Frame}
+use Rattle.rc6_encoder.specs.Encoder.{rc6Frame}
 use Rattle.rc6.specs.declared.decoder.Rc6Decoder.{Rc6Decoder}
 
 -- "A receiver .. used only through event_total": a fresh one, what it reports at an edge, and what it is after that

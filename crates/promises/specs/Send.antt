@@ -16,8 +16,8 @@ use Rattle.reports.specs.Reports.{reportNumber, reportValues}
 use Rattle.reports.specs.Run.{Edge, alternating}
 use Rattle.reports.specs.declared.Report.{Report}
 use Rattle.reports.specs.declared.Report.the-variants as report
-use Rattle.rc5.specs.Encoder.{rc5Frame}
-use Rattle.rc6.specs.Encoder.{rc6Frame}
+use Rattle.rc5_encoder.specs.Encoder.{rc5Frame}
+use Rattle.rc6_encoder.specs.Encoder.{rc6Frame}
 use Rattle.receiver.specs.Decoder.{newAt, reportsOf, decoderAfter}
 use Rattle.receiver.specs.Encoder.{encodeTaken, frameBy}
 use Rattle.receiver.specs.declared.decoder.Decoder.{Decoder}

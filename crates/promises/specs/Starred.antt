@@ -15,7 +15,7 @@ use Rattle.frames.specs.Frames.{encodedOf, leftOf, encodedNumber, encodedLength
 use Rattle.reports.specs.declared.Fault.the-variants.{Data}
 use Rattle.reports.specs.declared.Report.the-variants as report
 use Rattle.nec.specs.Decoder.{zeroBit}
-use Rattle.rc5.specs.Encoder.{rc5Frame}
+use Rattle.rc5_encoder.specs.Encoder.{rc5Frame}
 use Rattle.promises.specs.Heard.{quiet}
 use Rattle.promises.specs.Totals.{Tells, held}
 

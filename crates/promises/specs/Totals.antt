@@ -10,7 +10,7 @@ use Rattle.reports.specs.Run.{Pair, totals, edgesOf}
 use Rattle.reports.specs.declared.Report.{Report}
 use Rattle.reports.specs.declared.Report.the-variants as report
 use Rattle.nec.specs.Decoder as nec
-use Rattle.nec.specs.Encoder.{necFrame}
+use Rattle.nec_encoder.specs.Encoder.{necFrame}
 
 -- a report for each pair, at its rising edge; the falling edge before it reports nothing
 unfoldable pub atPairs : List Report → List Report

@@ -1,3 +1,2 @@
-// RC5: its frames, and the decoder.
+// Document 01, RC5.
 pub mod decoder;
-pub mod encoder;

@@ -1,3 +1,2 @@
-// RC6: its frames, and the decoder.
+// Document 01, RC6.
 pub mod decoder;
-pub mod encoder;

@@ -1,5 +1,4 @@
 -- `rc5::decoder::from_idle` meets its contract: a rising edge or a falling one. Assumes nothing.
-use borrow.Author.Needs.{needs}
 use Rattle.rc5.proofs.decoder.from_idle.Statement.{statement}
 use Rattle.rc5.proofs.decoder.from_idle.Tie as tie
 

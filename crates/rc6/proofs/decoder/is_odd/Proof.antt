@@ -1,6 +1,5 @@
 -- `rc6::decoder::is_odd` meets its contract: the mask of one bit is the remainder by two. Assumes nothing.
 use lib.Bits.{and-mask}
-use borrow.Author.Needs.{needs}
 use Rattle.rc6.proofs.decoder.is_odd.Statement.{statement}
 use Rattle.rc6.proofs.decoder.is_odd.Tie as tie
 

@@ -1,0 +1,74 @@
+// Document 01, "Frames": the NEC encoder.
+use commands::nec::NecCommand;
+use frames::Encoded;
+ghost use mathlib.Core.Path.{_≡_};
+ghost use Prim.Native.Nat.{_<_, _≤_, _+_};
+ghost use lib.ListN.{length};
+ghost use lib.Seq.{sets};
+ghost use Rattle.frames.specs.Frames.{scaledOf, pairOf, pairsFrom, encodedOf, leftOf};
+ghost use Rattle.nec_encoder.specs.Encoder.{frameOf, necFrame};
+
+// A length of the frame in ticks: at an admitted rate it fits 32 bits.
+fn ticks(length: u32, rate: u32) -> u32
+    requires { ⌜ (length ≤ 9000) × (rate ≤ 9673349) ⌝ }
+    ensures { λ r. ⌜ r ≡ scaledOf length rate ⌝ }
+{
+    frames::scale(length, rate) as u32
+}
+
+// The two durations of a bit, at a place.
+fn put_bit(out: &mut [u32], at: usize, short: u32, long: u32, one: bool)
+    requires { ⌜ at + 1 < length (now out) ⌝ }
+    ensures { λ _. ⌜ now (out .exit) ≡ sets (now (out .entry)) at (pairOf short short long one) ⌝ }
+{
+    out[at] = short;
+    if one {
+        out[at + 1] = long;
+    } else {
+        out[at + 1] = short;
+    }
+}
+
+// The pairs of the 32 bits, behind the leader and the pause.
+fn put_bits(out: &mut [u32], short: u32, long: u32, bits: u32)
+    requires { ⌜ 67 ≤ length (now out) ⌝ }
+    ensures { λ _. ⌜ now (out .exit) ≡ sets (now (out .entry)) 3 (pairsFrom short short long bits 32 0) ⌝ }
+{
+    let mut place: u32 = 0;
+    let mut at: usize = 3;
+    while place < 32 {
+        put_bit(out, at, short, long, frames::bit(bits as u64, place));
+        place += 1;
+        at += 2;
+    }
+}
+
+// Lays the frame of the packed bits over the front.
+fn write(out: &mut [u32], bits: u32, rate: u32)
+    requires { ⌜ (67 ≤ length (now out)) × (rate ≤ 9673349) ⌝ }
+    ensures { λ _. ⌜ now (out .exit) ≡ sets (now (out .entry)) 0 (frameOf bits rate) ⌝ }
+{
+    let leader = ticks(9000, rate);
+    let pause = ticks(4500, rate);
+    let short = ticks(560, rate);
+    let long = ticks(1690, rate);
+    out[0] = 0;
+    out[1] = leader;
+    out[2] = pause;
+    put_bits(out, short, long, bits);
+}
+
+// The frame of a command at a rate, into a lent slice. Refusals: 1, then 3.
+pub fn encode(command: NecCommand, rate: u32, out: &mut [u32]) -> Encoded
+    ensures answer { λ r. ⌜ r ≡ encodedOf rate (now (out .entry)) (necFrame command rate) ⌝ }
+    ensures left { λ _. ⌜ now (out .exit) ≡ leftOf rate (now (out .entry)) (necFrame command rate) ⌝ }
+{
+    if !spans::rate_taken(rate) {
+        return Encoded::Refused(1);
+    }
+    if out.len() < 67 {
+        return Encoded::Short(67);
+    }
+    write(out, command.pack(), rate);
+    Encoded::Wrote(67)
+}
