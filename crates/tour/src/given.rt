@@ -5,28 +5,6 @@ pub const LAST: u64 = 0xFFFFFFFF;
 
 const NONE: u64 = 0x100000000;
 
-// One more digit of a number.
-fn with_digit(value: u64, b: u8) -> u64 {
-    if value <= LAST && b'0' <= b {
-        let digit = (b - b'0') as u64;
-        if digit <= 9 {
-            return value * 10 + digit;
-        }
-    }
-    NONE
-}
-
-// The number that decimal digits spell.
-fn number_of(s: &[u8]) -> u64 {
-    let mut value: u64 = 0;
-    let mut i = 0;
-    while i < s.len() {
-        value = with_digit(value, s[i]);
-        i += 1;
-    }
-    value
-}
-
 // The number at a place of the words.
 fn number_at(i: usize) -> u64 {
     let mut s = io::buffer();
@@ -34,7 +12,7 @@ fn number_at(i: usize) -> u64 {
     if n == 0 {
         return NONE;
     }
-    number_of(&s[..n])
+    words::number_of(&s[..n])
 }
 
 // The number at a place, or what stands for it where it is left out; none above the largest that it may be.

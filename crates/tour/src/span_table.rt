@@ -8,20 +8,9 @@ use answers::of_answer;
 use spans::Answer;
 use spans::Found;
 
-// How many characters `LOW..HIGH` has.
-fn width_of_two(low: u64, high: u64) -> usize {
-    let a = text::width(low);
-    let b = text::width(high);
-    if a <= 20 {
-        if b <= 20 {
-            return a + 2 + b;
-        }
-    }
-    0
-}
-
+// `LOW..HIGH` at the right of a column.
 fn print_span(low: u64, high: u64) {
-    text::print_blanks(16, width_of_two(low, high));
+    text::print_blanks(16, text::width(low) + 2 + text::width(high));
     print_number(low);
     print(b"..");
     print_number(high);

@@ -1,5 +1,6 @@
 // Text and numbers, printed in columns. What is printed often is a function: a call is proved faster than a text.
 use libc::STDOUT_FILENO;
+ghost use Prim.Native.Nat.{_≤_};
 
 pub fn print(s: &[u8]) {
     io::write_all(STDOUT_FILENO, s);
@@ -19,9 +20,12 @@ pub fn print_gap() {
 }
 
 // How many digits a number has.
-pub fn width(x: u64) -> usize {
+pub fn width(x: u64) -> usize
+    ensures { λ r. ⌜ r ≤ 20 ⌝ }
+{
     let mut digits = [0u8; 20];
-    io::decimal(x, &mut digits)
+    let n = io::decimal(x, &mut digits);
+    if n < 20 { n } else { 20 }
 }
 
 // How many blanks fill a column before so many characters; one where they fill it.

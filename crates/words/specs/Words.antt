@@ -1,7 +1,7 @@
 -- A line of input as it is read, and numbers a digit or a letter at a time.
 use Prim.Native.Nat.{ℕ, _+_, _-_, _*_, _/_, _%_, _^_}
 use mathlib.Core.Bool.{Bool, true, false, cond, _&&_}
-use mathlib.Core.List.{List}
+use mathlib.Core.List.{List, [], _∷_}
 use lib.Dec.{leb, ltb, eqb}
 use lib.ListN.{getD, set}
 use Rattle.words.specs.declared.Line.{Line}
@@ -40,6 +40,15 @@ isLetter b = leb 97 b && leb b 122
 
 abbrev pub isDigit : ℕ → Bool
 isDigit b = leb 48 b && leb b 57
+
+-- a number with one more character of its text: a digit as above; any other leaves 2^64 - 1, which no digit changes
+abbrev pub spelledOn : ℕ → ℕ → ℕ
+spelledOn x b = cond (isDigit b) (digitOn x (b - 48)) (2 ^ 64 - 1)
+
+-- the number that a text spells, behind what is read of it already
+unfoldable pub spelled : ℕ → List ℕ → ℕ
+spelled x [] = x
+spelled x (b ∷ bs) = spelled (spelledOn x b) bs
 
 -- a line and its numbers, after a digit of the number begun last
 abbrev pub digitFed : Line → List ℕ → ℕ → Line × List ℕ

@@ -1,7 +1,7 @@
 // Words of text and decimal numbers, a character at a time: what the programs that read and print calls share.
 ghost use mathlib.Core.Path.{_≡_};
 ghost use Prim.Native.Nat.{_+_, _*_, _/_, _%_};
-ghost use Rattle.words.specs.Words.{freshLine, brokenLine, letterOn, isBegun, firstLetter, otherLetters, isRoom, digitOn, isLetter, isDigit, digitFed, blankFed, fedOf};
+ghost use Rattle.words.specs.Words.{freshLine, brokenLine, letterOn, isBegun, firstLetter, otherLetters, isRoom, digitOn, isLetter, isDigit, spelledOn, spelled, digitFed, blankFed, fedOf};
 
 // A line of input as it is read: a name, and numbers behind single blanks.
 pub struct Line {
@@ -112,6 +112,29 @@ fn is_digit(b: u8) -> bool
     ensures { λ r. ⌜ r ≡ isDigit b ⌝ }
 {
     b'0' <= b && b <= b'9'
+}
+
+// One more character of a number's text.
+fn spelled_on(x: u64, b: u8) -> u64
+    ensures { λ r. ⌜ r ≡ spelledOn x b ⌝ }
+{
+    if is_digit(b) {
+        return with_digit(x, b - b'0');
+    }
+    0xFFFFFFFFFFFFFFFF
+}
+
+// The number that a text spells; 2^64 - 1 where a character is no digit.
+pub fn number_of(s: &[u8]) -> u64
+    ensures { λ r. ⌜ r ≡ spelled 0 (now (s .entry)) ⌝ }
+{
+    let mut x: u64 = 0;
+    let mut i: usize = 0;
+    while i < s.len() {
+        x = spelled_on(x, s[i]);
+        i += 1;
+    }
+    x
 }
 
 // A digit of the number begun last.
