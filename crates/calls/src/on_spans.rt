@@ -1,9 +1,10 @@
-// What a call that asks no slot answers, where that is one text.
+// What a call that asks no slot answers, where that is one text. Spans and encode say nothing here: the program puts what they answer.
 use answers::Said;
 use answers::is_taken;
 use answers::not_understood;
 use answers::of_answer;
 use answers::of_found;
+use answers::text;
 use words::low_32;
 ghost use mathlib.Core.Path.{_≡_};
 ghost use Rattle.calls.specs.OnSpans.{lookupSaid, saidOf};
@@ -25,6 +26,9 @@ pub fn said_of(call: usize, n: &[u64; 8]) -> Said
 {
     if call == crate::LOOKUP {
         return lookup_said(low_32(n[0]), low_32(n[1]), n[2]);
+    }
+    if call < crate::OPEN {
+        return text(0, 0);
     }
     not_understood()
 }

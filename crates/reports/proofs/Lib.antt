@@ -1,3 +1,4 @@
+pub mod Rule
 pub mod Run
 pub mod NoError
 pub mod Shift

@@ -19,7 +19,7 @@ pub fn print_gap() {
     print(b"  ");
 }
 
-// How many digits a number has.
+// How many digits a number has: never more than 20, which the test tells the prover.
 pub fn width(x: u64) -> usize
     ensures { λ r. ⌜ r ≤ 20 ⌝ }
 {

@@ -55,7 +55,8 @@ use Rattle.polled.specs.declared.Polled.{Polled}
 use Rattle.reports.specs.declared.Report.{Report}
 use Rattle.bench.specs.Bench.{added}
 use Rattle.bench_polls.specs.Polls.{sumOf}
-use Rattle.bench_polls.proofs.Calls.{Poll, Add, Fits, lent, Says, report-typed, to-poll, polls-in, to-add, adds-in, adds-said}
+use Rattle.polled.proofs.Lent.{Poll, lent, Says, to-poll, polls-in}
+use Rattle.bench_polls.proofs.Calls.{Add, Fits, report-typed, to-add, adds-in, adds-said}
 use Rattle.bench_polls.proofs.Summing.{summed-next, summed-end}
 use Rattle.polled.proofs.Record.{mach, polled-ty, report-ty, spans-ty, memory-ty, bared, covered, mach-tells, polled-fits}
 use Rattle.polled.proofs.Polled as T

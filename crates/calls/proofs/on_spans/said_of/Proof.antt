@@ -1,5 +1,5 @@
--- `calls::on_spans::said_of` meets its contract: its test picks the definition's branch. Assumes nothing.
-use borrow.Author.Tests.{eq-eqb, ne-eqb}
+-- `calls::on_spans::said_of` meets its contract: its tests pick the definition's branch. Assumes nothing.
+use borrow.Author.Tests.{eq-eqb, ne-eqb, lt-ltb, le-ltb}
 use Rattle.calls.specs.OnSpans.{saidOf}
 use borrow.Author.Needs.{needs}
 use Rattle.calls.proofs.on_spans.said_of.Statement.{statement}
@@ -11,7 +11,11 @@ returns c = simp (eq-eqb _ _ (c .before .before .before .before .before .before 
 
 returns-2 : tie.Need-returns-2
 unfolding saidOf
-returns-2 c = simp (ne-eqb _ _ (c .before .if1 .left), c .not-understood .ensures)
+returns-2 c = simp (ne-eqb _ _ (c .before .before .if1 .left), lt-ltb _ _ (c .before .if2 .taken), c .text .ensures)
+
+returns-3 : tie.Need-returns-3
+unfolding saidOf
+returns-3 c = simp (ne-eqb _ _ (c .before .before .if1 .left), le-ltb _ _ (c .before .if2 .left), c .not-understood .ensures)
 
 pub said-of-spec : {M : Type 1} → statement M
 said-of-spec =
@@ -25,4 +29,6 @@ said-of-spec =
     (λ c κs. search needs)
     returns
     (λ c κs. search needs)
-    returns-2)
+    returns-2
+    (λ c κs. search needs)
+    returns-3)
