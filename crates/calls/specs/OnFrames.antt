@@ -4,6 +4,7 @@ use mathlib.Core.Bool.{cond}
 use mathlib.Core.List.{List, [], _∷_}
 use lib.Dec.{eqb}
 use lib.ListN.{getD, drop}
+use Rattle.frames.specs.Filled.{filled}
 use Rattle.frames.specs.declared.Encoded.{Encoded}
 use Rattle.frames.specs.declared.Encoded.the-variants as encoded
 use Rattle.receiver.specs.Encoder.{encodedBy, leftBy, frameBy}
@@ -13,8 +14,7 @@ mark place = 4000000000 + place % 1000
 
 -- as many marks as there are places, from a place on
 abbrev pub marked : ℕ → List ℕ → List ℕ
-marked place [] = []
-marked place (x ∷ xs) = mark place ∷ marked (place + 1) xs
+marked place xs = filled mark place xs
 
 -- how many places hold their mark, from a place on
 abbrev pub marksIn : ℕ → List ℕ → ℕ

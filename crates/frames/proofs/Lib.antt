@@ -1,6 +1,7 @@
 pub mod Product
 pub mod Scaled
 pub mod Laid
+pub mod Filled
 pub mod Answers
 pub mod Pairs
 pub mod Changes

@@ -3,14 +3,15 @@ use Prim.Native.Nat.{ℕ, _+_, _-_, _%_, _^_, _≤_, _<_}
 use mathlib.Core.Path.{_≡_}
 use mathlib.Core.Bool.{Bool, true, false, cond}
 use mathlib.Core.List.{List, [], _∷_}
-use lib.Dec.{eqb}
-use lib.ListN.{length, drop}
+use lib.Dec.{eqb, ltb}
+use lib.ListN.{length, drop, getD, replicate}
 use Rattle.commands.specs.declared.Command.{Command}
 use Rattle.commands.specs.declared.Command.the-variants as command
 use Rattle.commands.specs.declared.nec.NecCommand.{NecCommand}
 use Rattle.commands.specs.declared.rc5.Rc5Command.{Rc5Command}
 use Rattle.commands.specs.declared.rc6.Rc6Command.{Rc6Command}
 use Rattle.frames.specs.Frames.{bitSet}
+use Rattle.frames.specs.Filled.{filled}
 use Rattle.commands.specs.Command.{protocolOf, valuesOf}
 use Rattle.reports.specs.Reports.{reportNumber, reportValues}
 use Rattle.reports.specs.Run.{Edge, alternating}
@@ -85,6 +86,13 @@ unfoldable pub sentOf : Decoder → ℕ → ℕ → ℕ → ℕ → Bool → ℕ
 sentOf decoder protocol addr cmd start toggle silence wrongs =
     cond (encodeTaken protocol) (heardOf decoder silence (frameBy protocol 1000000 addr cmd start toggle) wrongs) (sentRefused 2 decoder)
 
+-- wrongs of one size for the 66 durations behind a silence: two durations come too long, two too short, and so on
+abbrev pub wrongAt : ℕ → ℕ → ℕ
+wrongAt wrong place = cond (ltb (place % 4) 2) wrong ((2 ^ 32 - wrong) % 2 ^ 32)
+
+abbrev pub wrongsOf : ℕ → List ℕ
+wrongsOf wrong = filled (wrongAt wrong) 0 (replicate 66 0)
+
 -- ---- "A frame that is sent is heard", of the call
 
 -- what is answered where the command is heard: the first edge reports what `mayReport` allows, the edge `settles` the command, and no other edge anything
@@ -96,25 +104,31 @@ pub record Answered (mayReport : Report → Type 0) (command : Command) (settles
   pub told : (reportNumber (answer .report) ≡ 0) × (reportValues (answer .report) ≡ protocolOf command ∷ valuesOf command)
   pub others : answer .others ≡ 0
 
--- the decoder was fresh and then had any earlier edges; the silence is over its bound, and no duration is wrong by more than `wrong`
-unfoldable pub SentHeard
-    : (protocol addr cmd start : ℕ) → (toggle : Bool) → (Report → Type 0) → (bound wrong : ℕ) → Command → (settles : ℕ) → Type 0
-SentHeard protocol addr cmd start toggle mayReport bound wrong command settles =
+-- the bounds by protocol number: "a silence (over 14,445 ticks NEC, 1,955 RC5, 2,983 RC6)", "wrong by at most 28 (NEC), 106 (RC5), 53 (RC6)"
+abbrev pub leastSilence : ℕ → ℕ
+leastSilence protocol = getD (0 ∷ 14446 ∷ 1956 ∷ 2984 ∷ []) protocol 0
+
+abbrev pub mostWrong : ℕ → ℕ
+mostWrong protocol = getD (0 ∷ 28 ∷ 106 ∷ 53 ∷ []) protocol 0
+
+-- the decoder was fresh and then had any earlier edges; silence and wrongs are within their bounds
+unfoldable pub SentHeard : (protocol addr cmd start : ℕ) → (toggle : Bool) → (Report → Type 0) → Command → (settles : ℕ) → Type 0
+SentHeard protocol addr cmd start toggle mayReport command settles =
     let frame = drop 1 (frameBy protocol 1000000 addr cmd start toggle) in
-    (earlier : List Edge) (silence : ℕ) (wrongs : List ℕ) → bound < silence → Near wrong frame (wronged frame wrongs)
+    (earlier : List Edge) (silence : ℕ) (wrongs : List ℕ) → leastSilence protocol ≤ silence → Near (mostWrong protocol) frame (wronged frame wrongs)
     → Answered mayReport command settles
     (sentOf (decoderAfter (newAt protocol 1000000 .decoder) earlier) protocol addr cmd start toggle silence wrongs)
 
 -- NEC sends neither a start nor a toggle
 abbrev pub NecSent : NecCommand → Type 0
-NecSent sent = (start : ℕ) (toggle : Bool) → SentHeard 1 (sent .addr) (sent .cmd) start toggle NothingOrData 14445 28 (command.Nec sent) 67
+NecSent sent = (start : ℕ) (toggle : Bool) → SentHeard 1 (sent .addr) (sent .cmd) start toggle NothingOrData (command.Nec sent) 67
 
 abbrev pub EveryNecSent : Type 0
 EveryNecSent = (addr cmd : ℕ) → addr < 256 → cmd < 256 → NecSent (record { addr = addr; cmd = cmd; repeat = false })
 
 abbrev pub Rc5Sent : Rc5Command → Type 0
 Rc5Sent sent =
-    SentHeard 2 (sent .addr) (sent .cmd) (sent .start) (sent .toggle) Nothing 1955 106 (command.Rc5 sent) (length (rc5Frame sent 1000000))
+    SentHeard 2 (sent .addr) (sent .cmd) (sent .start) (sent .toggle) Nothing (command.Rc5 sent) (length (rc5Frame sent 1000000))
 
 abbrev pub EveryRc5Sent : Type 0
 EveryRc5Sent =
@@ -125,7 +139,7 @@ EveryRc5Sent =
 abbrev pub Rc6Sent : Rc6Command → Type 0
 Rc6Sent sent =
     (start : ℕ)
-    → SentHeard 3 (sent .addr) (sent .cmd) start (sent .toggle) Nothing 2983 53 (command.Rc6 sent)
+    → SentHeard 3 (sent .addr) (sent .cmd) start (sent .toggle) Nothing (command.Rc6 sent)
     (length (rc6Frame sent 1000000) - cond (bitSet (sent .cmd) 0) 0 1)
 
 abbrev pub EveryRc6Sent : Type 0

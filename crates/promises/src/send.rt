@@ -5,7 +5,8 @@ use reports::Report;
 ghost use mathlib.Core.Path.{_≡_};
 ghost use Prim.Native.Nat.{_<_, _≤_};
 ghost use lib.ListN.{length, drop};
-ghost use Rattle.promises.specs.Send.{cameAs, told, noted, heardOf, sentRefused, sentOf};
+ghost use Rattle.frames.specs.Filled.{filled};
+ghost use Rattle.promises.specs.Send.{cameAs, told, noted, heardOf, sentRefused, sentOf, wrongAt, wrongsOf, leastSilence, mostWrong};
 
 // What the edges behind the first one reported so far: the number of the first of them that reported anything (0: none did), its report, and how many others
 // did.
@@ -141,4 +142,74 @@ pub fn send(
         Encoded::Refused(number) => refused(decoder, number),
         Encoded::Short(_) => refused(decoder, 3),
     }
+}
+
+// A wrong of one size: two durations come too long by it, two too short, and so on.
+fn wrong_at(wrong: u32, place: usize) -> u32
+    ensures { λ r. ⌜ r ≡ wrongAt wrong place ⌝ }
+{
+    if place % 4 < 2 {
+        return wrong;
+    }
+    std::num::wrapping_sub_u32(0, wrong)
+}
+
+fn set_wrongs(wrongs: &mut [u32], wrong: u32)
+    ensures { λ _. ⌜ now (wrongs .exit) ≡ filled (wrongAt wrong) 0 (now (wrongs .entry)) ⌝ }
+{
+    let mut i: usize = 0;
+    while i < wrongs.len() {
+        wrongs[i] = wrong_at(wrong, i);
+        i += 1;
+    }
+}
+
+// The same with wrongs of one size.
+pub fn send_wrong(
+    decoder: Decoder,
+    protocol: u32,
+    addr: u8,
+    cmd: u8,
+    start: u8,
+    toggle: bool,
+    silence: u32,
+    wrong: u32,
+) -> Sent
+    ensures { λ r. ⌜ r ≡ sentOf decoder protocol addr cmd start toggle silence (wrongsOf wrong) ⌝ }
+{
+    let mut wrongs = [0u32; 66];
+    set_wrongs(&mut wrongs, wrong);
+    send(
+        decoder,
+        protocol,
+        addr,
+        cmd,
+        start,
+        toggle,
+        silence,
+        &wrongs,
+    )
+}
+
+// The bounds of demand 3, for NEC, RC5 and RC6; no other protocol is sent.
+const LEAST_SILENCES: [u32; 4] = [0, 14446, 1956, 2984];
+
+const MOST_WRONGS: [u32; 4] = [0, 28, 106, 53];
+
+pub fn least_silence(protocol: u32) -> u32
+    ensures { λ r. ⌜ r ≡ leastSilence protocol ⌝ }
+{
+    if protocol < 4 {
+        return LEAST_SILENCES[protocol as usize];
+    }
+    0
+}
+
+pub fn most_wrong(protocol: u32) -> u32
+    ensures { λ r. ⌜ r ≡ mostWrong protocol ⌝ }
+{
+    if protocol < 4 {
+        return MOST_WRONGS[protocol as usize];
+    }
+    0
 }

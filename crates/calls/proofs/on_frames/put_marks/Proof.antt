@@ -2,14 +2,14 @@
 use Prim.Native.Nat.{ℕ, _+_, _-_}
 use mathlib.Core.Path.{_≡_, refl, sym, ap, _∙_}
 use lib.ListN.{length, set}
-use Rattle.calls.specs.OnFrames.{marked}
-use Rattle.calls.proofs.Marks.{laid, laid-next, laid-all}
+use Rattle.frames.proofs.Filled.{laid, laid-next, laid-all}
+use Rattle.calls.specs.OnFrames.{mark, marked}
 use borrow.Author.Needs.{needs}
 use Rattle.calls.proofs.on_frames.put_marks.Statement.{statement}
 use Rattle.calls.proofs.on_frames.put_marks.Tie as tie
 
 abbrev Inv-loop : tie.InvT-loop
-Inv-loop lent₀ i₀ lent i = (length lent ≡ length lent₀) × (laid lent i ≡ marked 0 lent₀)
+Inv-loop lent₀ i₀ lent i = (length lent ≡ length lent₀) × (laid mark lent i ≡ marked 0 lent₀)
 
 abbrev μ-loop : tie.MeasureT-loop
 μ-loop lent₀ i₀ lent i = length lent₀ - i
@@ -22,10 +22,10 @@ loop-again c =
     let loop = c .before .before .loop in
     let lent = loop .lent in
     let i = loop .i in
-    (search needs, ap (λ (x : ℕ). laid (set lent i x) (i + 1)) (c .mark-of .ensures) ∙ laid-next lent i (search needs) ∙ loop .inv .1)
+    (search needs, ap (λ (x : ℕ). laid mark (set lent i x) (i + 1)) (c .mark-of .ensures) ∙ laid-next mark lent i (search needs) ∙ loop .inv .1)
 
 returns : tie.Need-returns Inv-loop μ-loop
-returns c = let loop = c .before .loop in sym (laid-all (loop .lent) (loop .i) (search needs)) ∙ loop .inv .1
+returns c = let loop = c .before .loop in sym (laid-all mark (loop .lent) (loop .i) (search needs)) ∙ loop .inv .1
 
 pub put-marks-spec : {M : Type 1} → statement M
 put-marks-spec =
