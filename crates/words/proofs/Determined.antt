@@ -12,6 +12,7 @@ use Rattle.words.proofs.other_letters as other-letters
 use Rattle.words.proofs.low_32 as low-32
 use Rattle.words.proofs.low_8 as low-8
 use Rattle.words.proofs.number_of as number-of
+use Rattle.words.proofs.name_of as name-of
 use Rattle.words.proofs.fed as fed
 
 module _ {M : Type 1} (𝓤 : URA M) (H : Heap 𝓤) (𝓜 : Model 𝓤 H) (𝓖 : GhostRules 𝓤 H) (𝓡 : Running 𝓤 H 𝓜) where
@@ -35,6 +36,9 @@ module _ {M : Type 1} (𝓤 : URA M) (H : Heap 𝓤) (𝓜 : Model 𝓤 H) (𝓖
 
   number-of-fixed : Fixed 𝓤 H (𝓖 .A) number-of.ended (number-of.clauses 𝓤 H (𝓖 .A) (𝓜 .mem) (𝓡 .run)) (𝓡 .run number-of.Symbol.routine)
   number-of-fixed = (number-of.Met.met 𝓤 H 𝓜 𝓖 𝓡, λ κs a g h r s v w. both one one alike)
+
+  name-of-fixed : Fixed 𝓤 H (𝓖 .A) name-of.ended (name-of.clauses 𝓤 H (𝓖 .A) (𝓜 .mem) (𝓡 .run)) (𝓡 .run name-of.Symbol.routine)
+  name-of-fixed = (name-of.Met.met 𝓤 H 𝓜 𝓖 𝓡, λ κs a g h r s v w. both one one alike)
 
   fed-fixed : Fixed 𝓤 H (𝓖 .A) fed.ended (fed.clauses 𝓤 H (𝓖 .A) (𝓜 .mem) (𝓡 .run)) (𝓡 .run fed.Symbol.routine)
   fed-fixed =

@@ -45,10 +45,14 @@ isDigit b = leb 48 b && leb b 57
 abbrev pub spelledOn : ℕ → ℕ → ℕ
 spelledOn x b = cond (isDigit b) (digitOn x (b - 48)) (2 ^ 64 - 1)
 
--- the number that a text spells, behind what is read of it already
-unfoldable pub spelled : ℕ → List ℕ → ℕ
-spelled x [] = x
-spelled x (b ∷ bs) = spelled (spelledOn x b) bs
+-- the last eight characters of a text as digits of base 256: with one more
+abbrev pub namedOn : ℕ → ℕ → ℕ
+namedOn x b = x % 2 ^ 56 * 256 + b
+
+-- a text, character by character, behind what is read of it already
+unfoldable pub readBy : (ℕ → ℕ → ℕ) → ℕ → List ℕ → ℕ
+readBy on x [] = x
+readBy on x (b ∷ bs) = readBy on (on x b) bs
 
 -- a line and its numbers, after a digit of the number begun last
 abbrev pub digitFed : Line → List ℕ → ℕ → Line × List ℕ

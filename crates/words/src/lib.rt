@@ -1,7 +1,7 @@
 // Words of text and decimal numbers, a character at a time: what the programs that read and print calls share.
 ghost use mathlib.Core.Path.{_≡_};
 ghost use Prim.Native.Nat.{_+_, _*_, _/_, _%_};
-ghost use Rattle.words.specs.Words.{freshLine, brokenLine, letterOn, isBegun, firstLetter, otherLetters, isRoom, digitOn, isLetter, isDigit, spelledOn, spelled, digitFed, blankFed, fedOf};
+ghost use Rattle.words.specs.Words.{freshLine, brokenLine, letterOn, isBegun, firstLetter, otherLetters, isRoom, digitOn, isLetter, isDigit, spelledOn, namedOn, readBy, digitFed, blankFed, fedOf};
 
 // A line of input as it is read: a name, and numbers behind single blanks.
 pub struct Line {
@@ -126,12 +126,31 @@ fn spelled_on(x: u64, b: u8) -> u64
 
 // The number that a text spells; 2^64 - 1 where a character is no digit.
 pub fn number_of(s: &[u8]) -> u64
-    ensures { λ r. ⌜ r ≡ spelled 0 (now (s .entry)) ⌝ }
+    ensures { λ r. ⌜ r ≡ readBy spelledOn 0 (now (s .entry)) ⌝ }
 {
     let mut x: u64 = 0;
     let mut i: usize = 0;
     while i < s.len() {
         x = spelled_on(x, s[i]);
+        i += 1;
+    }
+    x
+}
+
+fn named_on(x: u64, b: u8) -> u64
+    ensures { λ r. ⌜ r ≡ namedOn x b ⌝ }
+{
+    x % 0x100000000000000 * 256 + b as u64
+}
+
+// The characters of a text as digits of base 256; of a long one the last eight.
+pub fn name_of(s: &[u8]) -> u64
+    ensures { λ r. ⌜ r ≡ readBy namedOn 0 (now (s .entry)) ⌝ }
+{
+    let mut x: u64 = 0;
+    let mut i: usize = 0;
+    while i < s.len() {
+        x = named_on(x, s[i]);
         i += 1;
     }
     x
