@@ -1,0 +1,36 @@
+-- That `decimal` means what it says: the characters that show of some numbers. Assumes nothing.
+use Prim.Native.Nat.{ℕ, zero, suc, _-_, _^_}
+use mathlib.Core.Path.{_≡_, refl}
+use mathlib.Core.List.{List, [], _∷_}
+use Rattle.text.specs.Text.{putOf, putsOf, chars, digitsOf, decimal}
+
+-- all but the zeros
+abbrev pub shown : List ℕ → List ℕ
+shown [] = []
+shown (zero ∷ bs) = shown bs
+shown (suc b ∷ bs) = suc b ∷ shown bs
+
+-- a zero puts nothing
+pub puts-shown : (text : List ℕ) (at : ℕ) (bs : List ℕ) → putsOf text at (shown bs) ≡ putsOf text at bs
+unfolding putsOf putOf
+puts-shown text at [] = refl
+puts-shown text at (zero ∷ bs) = puts-shown text at bs
+puts-shown text at (suc b ∷ bs) = puts-shown (putOf text at (suc b) .0) (putOf text at (suc b) .1) bs
+
+pub decimal-0 : shown (decimal 0) ≡ chars ("0" ∷ [])
+unfolding decimal digitsOf
+decimal-0 = refl
+
+pub decimal-10 : shown (decimal 10) ≡ chars ("1" ∷ "0" ∷ [])
+unfolding decimal digitsOf
+decimal-10 = refl
+
+pub decimal-14446 : shown (decimal 14446) ≡ chars ("1" ∷ "4" ∷ "4" ∷ "4" ∷ "6" ∷ [])
+unfolding decimal digitsOf
+decimal-14446 = refl
+
+pub decimal-last
+    : shown (decimal (2 ^ 64 - 1))
+    ≡ chars ("1" ∷ "8" ∷ "4" ∷ "4" ∷ "6" ∷ "7" ∷ "4" ∷ "4" ∷ "0" ∷ "7" ∷ "3" ∷ "7" ∷ "0" ∷ "9" ∷ "5" ∷ "5" ∷ "1" ∷ "6" ∷ "1" ∷ "5" ∷ [])
+unfolding decimal digitsOf
+decimal-last = refl

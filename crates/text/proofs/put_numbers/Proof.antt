@@ -1,0 +1,47 @@
+-- `text::put_numbers` meets its contract: the numbers still to come, put from here on, give the whole. Assumes nothing.
+use Prim.Native.Nat.{_-_}
+use mathlib.Core.Path.{_≡_, refl}
+use lib.ListN.{length, drop}
+use Rattle.text.specs.Text.{putsOf, numbersText}
+use Rattle.text.proofs.Parts.{numbers-start, number-put, numbers-put}
+use borrow.Author.Needs.{needs}
+use Rattle.text.proofs.put_numbers.Statement.{statement}
+use Rattle.text.proofs.put_numbers.Tie as tie
+
+abbrev Inv-loop : tie.InvT-loop
+Inv-loop text₀ at numbers count next₀ i₀ text next i =
+    (length text ≡ length text₀) × (putsOf text next (numbersText (count - i) (drop i numbers)) ≡ putsOf text₀ at (numbersText count numbers))
+
+abbrev μ-loop : tie.MeasureT-loop
+μ-loop text₀ at numbers count next₀ i₀ text next i = length numbers - i
+
+loop-holds : tie.Need-loop-holds Inv-loop μ-loop
+loop-holds c = (refl, numbers-start _ _ _ _)
+
+loop-again : tie.Need-loop-again Inv-loop μ-loop
+loop-again c =
+    let put = c .before .before in
+    let test = put .before .before .before in
+    let loop = test .before .loop in
+    (search needs, number-put (loop .text) (loop .next) (put .put-next .last .0) (put .put-next .result) _ _ (loop .i) _ _ (test .loop-test .taken) (loop .inv .1) (put .put-next .ensures) refl)
+
+returns : tie.Need-returns Inv-loop μ-loop
+returns c =
+    let loop = c .before .loop in
+    numbers-put _ _ _ (loop .text) (loop .next) _ (loop .i) _ (c .loop-test .left) (loop .inv .1)
+
+pub put-numbers-spec : {M : Type 1} → statement M
+put-numbers-spec =
+    tie.close
+    (tie.spec
+    Inv-loop
+    μ-loop
+    loop-holds
+    (λ c. search needs)
+    (λ c. search needs)
+    (λ c κs. search needs)
+    (λ c. search needs)
+    (λ c. search needs)
+    loop-again
+    (λ c. search needs)
+    returns)

@@ -1,0 +1,61 @@
+-- Text that gathers in a lent slice from a place on: what the slice holds afterwards, and the next place.
+use Prim.Native.Nat.{ℕ, zero, suc, _+_, _*_, _/_, _%_, _^_}
+use Prim.Native.Char.{Char, code}
+use mathlib.Core.Bool.{Bool, true, cond, _&&_}
+use mathlib.Core.List.{List, [], _∷_, _++_, map}
+use lib.Dec.{leb, ltb}
+use lib.ListN.{length, set}
+use Rattle.answers.specs.declared.Said.{Said}
+
+-- a character at a place, where there is room; 0 is none
+unfoldable pub putOf : List ℕ → ℕ → ℕ → List ℕ × ℕ
+putOf text at b = cond (ltb 0 b && ltb at (length text)) (set text at b, at + 1) (text, at)
+
+-- characters, one behind the other
+unfoldable pub putsOf : List ℕ → ℕ → List ℕ → List ℕ × ℕ
+putsOf text at [] = (text, at)
+putsOf text at (b ∷ bs) = putsOf (putOf text at b .0) (putOf text at b .1) bs
+
+abbrev pub chars : List Char → List ℕ
+chars cs = map code cs
+
+-- of eight letters as digits of base 256: the first, and the others moved to the front
+abbrev pub firstLetter : ℕ → ℕ
+firstLetter word = word / 2 ^ 56 % 256
+
+abbrev pub otherLetters : ℕ → ℕ
+otherLetters word = word % 2 ^ 56 * 256
+
+-- so many letters of a word
+unfoldable pub letters : ℕ → ℕ → List ℕ
+letters zero word = []
+letters (suc n) word = firstLetter word ∷ letters n (otherLetters word)
+
+-- the digit of a number at a power of ten; none in front of its first digit
+abbrev pub digitAt : ℕ → ℕ → ℕ
+digitAt x power = cond (leb power 1) (48 + x % 10) (cond (leb power x) (48 + x / power % 10) 0)
+
+-- so many digits of a number, from a power of ten down
+unfoldable pub digitsOf : ℕ → ℕ → ℕ → List ℕ
+digitsOf zero power x = []
+digitsOf (suc n) power x = digitAt x power ∷ digitsOf n (power / 10) x
+
+-- a number below 2^64 in decimal: at most 20 digits
+unfoldable pub decimal : ℕ → List ℕ
+decimal x = digitsOf 20 (10 ^ 19) x
+
+-- a number behind a blank, where it is one of those said
+unfoldable pub nextText : Bool → ℕ → List ℕ
+nextText said x = cond said (chars (" " ∷ []) ++ decimal x) []
+
+-- the first of the numbers, so many
+unfoldable pub numbersText : ℕ → List ℕ → List ℕ
+numbersText zero ns = []
+numbersText (suc n) [] = []
+numbersText (suc n) (x ∷ xs) = nextText true x ++ numbersText n xs
+
+unfoldable pub saidText : Said → List ℕ
+saidText said = letters 8 (said .head) ++ letters 8 (said .tail) ++ numbersText (said .count) (said .numbers)
+
+unfoldable pub spanText : ℕ → ℕ → List ℕ
+spanText low high = decimal low ++ chars ("." ∷ "." ∷ []) ++ decimal high

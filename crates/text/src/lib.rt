@@ -1,0 +1,125 @@
+// Text that gathers in a lent slice. Each function takes the place where its text starts, and answers the next one.
+use answers::Said;
+ghost use mathlib.Core.Path.{_≡_};
+ghost use Rattle.text.specs.Text.{putOf, putsOf, firstLetter, otherLetters, letters, digitAt, decimal, nextText, numbersText, saidText, spanText};
+
+// A character, where there is room; 0 is none.
+pub fn put(text: &mut [u8], at: usize, b: u8) -> usize
+    ensures next { λ r. ⌜ r ≡ putOf (now (text .entry)) at b .1 ⌝ }
+    ensures left { λ _. ⌜ now (text .exit) ≡ putOf (now (text .entry)) at b .0 ⌝ }
+{
+    if 0 < b {
+        if at < text.len() {
+            text[at] = b;
+            return at + 1;
+        }
+    }
+    at
+}
+
+// The first of eight letters, which are digits of base 256.
+fn first_letter(word: u64) -> u8
+    ensures { λ r. ⌜ r ≡ firstLetter word ⌝ }
+{
+    (word / 0x100000000000000 % 256) as u8
+}
+
+// The letters behind the first.
+fn other_letters(word: u64) -> u64
+    ensures { λ r. ⌜ r ≡ otherLetters word ⌝ }
+{
+    word % 0x100000000000000 * 256
+}
+
+// The digits of base 256 as characters, the highest first.
+pub fn put_letters(text: &mut [u8], at: usize, word: u64) -> usize
+    ensures next { λ r. ⌜ r ≡ putsOf (now (text .entry)) at (letters 8 word) .1 ⌝ }
+    ensures left { λ _. ⌜ now (text .exit) ≡ putsOf (now (text .entry)) at (letters 8 word) .0 ⌝ }
+{
+    let mut next = at;
+    let mut rest = word;
+    let mut left: u8 = 8;
+    while left > 0 {
+        next = put(text, next, first_letter(rest));
+        rest = other_letters(rest);
+        left -= 1;
+    }
+    next
+}
+
+// The digit at a power of ten; none in front of the first.
+fn digit_at(x: u64, power: u64) -> u8
+    ensures { λ r. ⌜ r ≡ digitAt x power ⌝ }
+{
+    if power <= 1 {
+        return b'0' + (x % 10) as u8;
+    }
+    if power <= x {
+        return b'0' + (x / power % 10) as u8;
+    }
+    0
+}
+
+// A number in decimal: at most 20 digits.
+pub fn put_number(text: &mut [u8], at: usize, x: u64) -> usize
+    ensures next { λ r. ⌜ r ≡ putsOf (now (text .entry)) at (decimal x) .1 ⌝ }
+    ensures left { λ _. ⌜ now (text .exit) ≡ putsOf (now (text .entry)) at (decimal x) .0 ⌝ }
+{
+    let mut next = at;
+    let mut power: u64 = 10000000000000000000;
+    let mut left: u8 = 20;
+    while left > 0 {
+        next = put(text, next, digit_at(x, power));
+        power = power / 10;
+        left -= 1;
+    }
+    next
+}
+
+// A number behind a blank, where it is one of those said.
+pub fn put_next(text: &mut [u8], at: usize, is_said: bool, x: u64) -> usize
+    ensures next { λ r. ⌜ r ≡ putsOf (now (text .entry)) at (nextText «is_said» x) .1 ⌝ }
+    ensures left { λ _. ⌜ now (text .exit) ≡ putsOf (now (text .entry)) at (nextText «is_said» x) .0 ⌝ }
+{
+    if is_said {
+        let next = put(text, at, b' ');
+        return put_number(text, next, x);
+    }
+    at
+}
+
+// The first of the numbers, each behind a blank.
+fn put_numbers(text: &mut [u8], at: usize, numbers: &[u64], count: usize) -> usize
+    ensures next { λ r. ⌜ r ≡ putsOf (now (text .entry)) at (numbersText count (now (numbers .entry))) .1 ⌝ }
+    ensures left { λ _. ⌜ now (text .exit) ≡ putsOf (now (text .entry)) at (numbersText count (now (numbers .entry))) .0 ⌝ }
+{
+    let mut next = at;
+    let mut i: usize = 0;
+    while i < numbers.len() {
+        next = put_next(text, next, i < count, numbers[i]);
+        i += 1;
+    }
+    next
+}
+
+// What a call answers: its text, and the numbers behind it.
+pub fn put_said(text: &mut [u8], at: usize, said: Said) -> usize
+    ensures next { λ r. ⌜ r ≡ putsOf (now (text .entry)) at (saidText said) .1 ⌝ }
+    ensures left { λ _. ⌜ now (text .exit) ≡ putsOf (now (text .entry)) at (saidText said) .0 ⌝ }
+{
+    let next = put_letters(text, at, said.head);
+    let next = put_letters(text, next, said.tail);
+    let numbers = said.numbers;
+    put_numbers(text, next, &numbers, said.count)
+}
+
+// The two ends of a span, and two dots between them.
+pub fn put_span(text: &mut [u8], at: usize, low: u32, high: u32) -> usize
+    ensures next { λ r. ⌜ r ≡ putsOf (now (text .entry)) at (spanText low high) .1 ⌝ }
+    ensures left { λ _. ⌜ now (text .exit) ≡ putsOf (now (text .entry)) at (spanText low high) .0 ⌝ }
+{
+    let next = put_number(text, at, low as u64);
+    let next = put(text, next, b'.');
+    let next = put(text, next, b'.');
+    put_number(text, next, high as u64)
+}
