@@ -1,9 +1,9 @@
 // Edges in order to a decoder, and a line for each that is to be shown.
-use crate::report_text::print_report;
-use crate::text::print;
-use crate::text::print_gap;
-use crate::text::print_newline;
-use crate::text::print_right;
+use crate::out::print;
+use crate::out::print_gap;
+use crate::out::print_newline;
+use crate::out::print_report;
+use crate::out::print_right;
 use answers::is_nothing;
 use receiver::decoder::Decoder;
 use reports::Report;
@@ -30,16 +30,12 @@ fn print_line(i: usize, rising: bool, duration: u32, report: Report) {
 }
 
 // All edges are shown, or those that report something.
-fn print_shown(all: bool, i: usize, rising: bool, duration: u32, report: Report) {
-    if all || !is_nothing(report) {
-        print_line(i, rising, duration, report);
-    }
-}
-
 fn edge(decoder: Decoder, all: bool, i: usize, rising: bool, duration: u32) -> Decoder {
     let total = decoder.event_total(rising, duration);
     let report = total.report;
-    print_shown(all, i, rising, duration, report);
+    if all || !is_nothing(report) {
+        print_line(i, rising, duration, report);
+    }
     total.decoder
 }
 

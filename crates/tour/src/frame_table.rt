@@ -1,8 +1,8 @@
 // The frame of a command, a line for each duration, and what a fresh decoder of its protocol reports there.
 use crate::edges;
-use crate::report_text::print_said;
-use crate::text::print;
-use crate::text::print_number;
+use crate::out::print;
+use crate::out::print_number;
+use crate::out::print_said;
 use answers::of_encoded;
 use frames::Encoded;
 
@@ -35,4 +35,10 @@ pub fn show(
 ) {
     let encoded = receiver::encoder::encode(protocol, rate, addr, cmd, start, toggle, room);
     print_encoded(protocol, rate, room, encoded);
+}
+
+// In room for every frame.
+pub fn show_whole(protocol: u32, rate: u32, addr: u8, cmd: u8, start: u8, toggle: bool) {
+    let mut room = [0u32; 67];
+    show(protocol, rate, addr, cmd, start, toggle, &mut room);
 }

@@ -2,16 +2,15 @@
 mod edges;
 mod frame_table;
 mod given;
+mod out;
 mod parts;
-mod report_text;
 mod send_table;
 mod span_table;
-mod text;
 
 use given::number;
-use send_table::least_silence;
-use send_table::most_wrong;
-use text::print;
+use out::print;
+use promises::send::least_silence;
+use promises::send::most_wrong;
 use words::low_8;
 use words::low_32;
 
@@ -53,16 +52,14 @@ fn run_frame(count: usize) {
     let start = number(6, count, 3, 255);
     let toggle = number(7, count, 0, 1);
     let all = protocol | rate | addr | cmd | start | toggle;
-    let mut room = [0u32; 67];
     if (count == 6 || count == 8) && all <= given::LAST {
-        frame_table::show(
+        frame_table::show_whole(
             low_32(protocol),
             low_32(rate),
             low_8(addr),
             low_8(cmd),
             low_8(start),
             toggle == 1,
-            &mut room,
         );
     } else {
         usage();
@@ -75,8 +72,9 @@ fn run_send(count: usize) {
     let cmd = number(4, count, 0, 255);
     let start = number(5, count, 3, 255);
     let toggle = number(6, count, 0, 1);
-    let silence = number(7, count, least_silence(protocol), given::LAST);
-    let wrong = number(8, count, most_wrong(protocol), given::LAST);
+    let bound = low_32(protocol);
+    let silence = number(7, count, least_silence(bound) as u64, given::LAST);
+    let wrong = number(8, count, most_wrong(bound) as u64, given::LAST);
     let all = protocol | addr | cmd | start | toggle | silence | wrong;
     if (count == 5 || count == 7 || count == 9) && all <= given::LAST {
         send_table::show(
@@ -94,16 +92,13 @@ fn run_send(count: usize) {
 }
 
 fn run_word(count: usize) {
-    if given::is(1, b"spans") {
-        run_spans(count);
-    } else if given::is(1, b"frame") {
-        run_frame(count);
-    } else if given::is(1, b"send") {
-        run_send(count);
-    } else if given::is(1, b"help") {
-        help();
-    } else {
-        usage();
+    match given::name(1) {
+        // spans, frame, send, help
+        0x7370616E73 => run_spans(count),
+        0x6672616D65 => run_frame(count),
+        0x73656E64 => run_send(count),
+        0x68656C70 => help(),
+        _ => usage(),
     }
 }
 
@@ -114,5 +109,5 @@ fn main() {
     } else {
         run_word(count);
     }
-    text::print_newline();
+    out::print_newline();
 }

@@ -1,15 +1,13 @@
 // The tour, part by part.
 use crate::edges;
 use crate::frame_table;
-use crate::report_text::print_report;
+use crate::out::print;
+use crate::out::print_report;
 use crate::send_table::print_head;
 use crate::send_table::print_line;
-use crate::text::print;
+use nec::decoder::NecDecoder;
 use nec::decoder::NecMemory;
 use nec::decoder::NecState;
-use receiver::decoder::Decoder;
-use receiver::decoder::Memory;
-use reports::Report;
 
 fn show_frame() {
     print(
@@ -20,8 +18,7 @@ A command is shown as nec ADDRESS COMMAND REPEAT, rc5 ADDRESS COMMAND START TOGG
 The frame of RC5 address 5, command 12, start 3, toggle 0, and what a fresh decoder reports at each of its edges.
 ",
     );
-    let mut room = [0u32; 67];
-    frame_table::show(2, 1000000, 5, 12, 3, false, &mut room);
+    frame_table::show_whole(2, 1000000, 5, 12, 3, false);
 }
 
 fn show_heard() {
@@ -92,18 +89,19 @@ A pulse is a fall and the rise behind it. These edges report something; the repe
     feed_broken();
 }
 
-// An edge, of a record whose bit counter says 32.
-fn report_at_bit_32() -> Report {
+// What a decoder reports whose bit counter says 32.
+fn print_at_bit_32() {
     let built = spans::spans_of(1, 1000000);
     let spans = built.spans;
-    let memory = Memory::Nec(NecMemory {
+    let memory = NecMemory {
         state: NecState::Receiving(32),
         bits: 0,
         saved: 0,
-    });
-    let decoder = Decoder { spans, memory };
+    };
+    let decoder = NecDecoder { spans, memory };
     let total = decoder.event_total(true, 1120);
-    total.report
+    let report = total.report;
+    print_report(report);
 }
 
 // An RC5 frame's answer, or the refusal of its number, with 25 places of room.
@@ -127,7 +125,7 @@ the frame of protocol 6                                                  ",
     print(b"\nthe same at 1 MHz, into 25 places                                        ");
     show_in_25(2, 1000000);
     print(b"\nan edge, of a decoder of NEC that is told to be at bit 32                ");
-    print_report(report_at_bit_32());
+    print_at_bit_32();
 }
 
 pub fn show() {

@@ -1,24 +1,17 @@
 // The spans of all five protocols at a rate, and the place of a duration.
-use crate::report_text::print_said;
-use crate::text;
-use crate::text::print;
-use crate::text::print_newline;
-use crate::text::print_number;
+use crate::out::print;
+use crate::out::print_newline;
+use crate::out::print_number;
+use crate::out::print_right;
+use crate::out::print_said;
+use crate::out::print_span;
 use answers::of_answer;
 use spans::Answer;
 use spans::Found;
 
-// `LOW..HIGH` at the right of a column.
-fn print_span(low: u64, high: u64) {
-    text::print_blanks(16, text::width(low) + 2 + text::width(high));
-    print_number(low);
-    print(b"..");
-    print_number(high);
-}
-
 fn print_found(found: Found) {
     match found {
-        Found::At(place) => text::print_right(16, place as u64),
+        Found::At(place) => print_right(16, place as u64),
         Found::Nothing => print(b"            none"),
     }
 }
@@ -28,7 +21,7 @@ fn print_cell(protocol: u32, rate: u32, place: usize, duration: u64) {
     let built = spans::spans_of(protocol, rate);
     let s = built.spans;
     if place < 8 {
-        print_span(s.low[place] as u64, s.high[place] as u64);
+        print_span(s.low[place], s.high[place]);
     } else {
         print_found(spans::lookup(s, duration));
     }
@@ -51,7 +44,7 @@ fn print_spans(rate: u32) {
     let mut place: usize = 0;
     while place < 8 {
         print_newline();
-        text::print_right(5, place as u64);
+        print_right(5, place as u64);
         print_row(rate, place, 0);
         place += 1;
     }
