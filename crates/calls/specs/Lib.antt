@@ -2,3 +2,4 @@ pub mod Calls
 pub mod OnSpans
 pub mod OnSlots
 pub mod OnFrames
+pub mod Told

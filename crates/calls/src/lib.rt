@@ -2,6 +2,7 @@
 pub mod on_frames;
 pub mod on_slots;
 mod on_spans;
+pub mod told;
 
 use words::Line;
 ghost use mathlib.Core.Path.{_≡_};

@@ -7,8 +7,6 @@ use contract.Running.{GhostRules, Running}
 use Rattle.determined.specs.Determined.{Fixed, both, one, _&_, alike, meet, _⨾_}
 use Rattle.words.proofs.fresh as fresh
 use Rattle.words.proofs.is_begun as is-begun
-use Rattle.words.proofs.first_letter as first-letter
-use Rattle.words.proofs.other_letters as other-letters
 use Rattle.words.proofs.low_32 as low-32
 use Rattle.words.proofs.low_8 as low-8
 use Rattle.words.proofs.number_of as number-of
@@ -21,12 +19,6 @@ module _ {M : Type 1} (𝓤 : URA M) (H : Heap 𝓤) (𝓜 : Model 𝓤 H) (𝓖
 
   is-begun-fixed : Fixed 𝓤 H (𝓖 .A) is-begun.ended (is-begun.clauses 𝓤 H (𝓖 .A) (𝓜 .mem) (𝓡 .run)) (𝓡 .run is-begun.Symbol.routine)
   is-begun-fixed = (is-begun.Met.met 𝓤 H 𝓜 𝓖 𝓡, λ κs a g h r s v w. both one one alike)
-
-  first-letter-fixed : Fixed 𝓤 H (𝓖 .A) first-letter.ended (first-letter.clauses 𝓤 H (𝓖 .A) (𝓜 .mem) (𝓡 .run)) (𝓡 .run first-letter.Symbol.routine)
-  first-letter-fixed = (first-letter.Met.met 𝓤 H 𝓜 𝓖 𝓡, λ κs a g h r s v w. both one one alike)
-
-  other-letters-fixed : Fixed 𝓤 H (𝓖 .A) other-letters.ended (other-letters.clauses 𝓤 H (𝓖 .A) (𝓜 .mem) (𝓡 .run)) (𝓡 .run other-letters.Symbol.routine)
-  other-letters-fixed = (other-letters.Met.met 𝓤 H 𝓜 𝓖 𝓡, λ κs a g h r s v w. both one one alike)
 
   low-32-fixed : Fixed 𝓤 H (𝓖 .A) low-32.ended (low-32.clauses 𝓤 H (𝓖 .A) (𝓜 .mem) (𝓡 .run)) (𝓡 .run low-32.Symbol.routine)
   low-32-fixed = (low-32.Met.met 𝓤 H 𝓜 𝓖 𝓡, λ κs a g h r s v w. both one one alike)

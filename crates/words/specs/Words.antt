@@ -28,13 +28,6 @@ isRoom x d = leb x ((2 ^ 64 - 1 - d) / 10)
 abbrev pub digitOn : ℕ → ℕ → ℕ
 digitOn x d = cond (isRoom x d) (x * 10 + d) x
 
--- of eight letters as digits of base 256: the first, and the others moved to the front
-abbrev pub firstLetter : ℕ → ℕ
-firstLetter word = word / 2 ^ 56 % 256
-
-abbrev pub otherLetters : ℕ → ℕ
-otherLetters word = word % 2 ^ 56 * 256
-
 abbrev pub isLetter : ℕ → Bool
 isLetter b = leb 97 b && leb b 122
 

@@ -1,7 +1,7 @@
 // Words of text and decimal numbers, a character at a time: what the programs that read and print calls share.
 ghost use mathlib.Core.Path.{_≡_};
-ghost use Prim.Native.Nat.{_+_, _*_, _/_, _%_};
-ghost use Rattle.words.specs.Words.{freshLine, brokenLine, letterOn, isBegun, firstLetter, otherLetters, isRoom, digitOn, isLetter, isDigit, spelledOn, namedOn, readBy, digitFed, blankFed, fedOf};
+ghost use Prim.Native.Nat.{_%_};
+ghost use Rattle.words.specs.Words.{freshLine, brokenLine, letterOn, isBegun, isRoom, digitOn, isLetter, isDigit, spelledOn, namedOn, readBy, digitFed, blankFed, fedOf};
 
 // A line of input as it is read: a name, and numbers behind single blanks.
 pub struct Line {
@@ -73,20 +73,6 @@ fn with_digit(x: u64, d: u8) -> u64
         return x * 10 + d as u64;
     }
     x
-}
-
-// The first of eight letters, which are digits of base 256.
-pub fn first_letter(word: u64) -> u8
-    ensures { λ r. ⌜ r ≡ firstLetter word ⌝ }
-{
-    (word / 0x100000000000000 % 256) as u8
-}
-
-// The letters behind the first.
-pub fn other_letters(word: u64) -> u64
-    ensures { λ r. ⌜ r ≡ otherLetters word ⌝ }
-{
-    word % 0x100000000000000 * 256
 }
 
 // The low bits of a number, which are the number where it fits.

@@ -1,0 +1,25 @@
+-- `calls::told::put_part` meets its contract: its parts are put one behind the other. Assumes nothing.
+use Rattle.text.proofs.Puts.{one, two}
+use Rattle.calls.specs.Told.{partText}
+use borrow.Author.Needs.{needs}
+use Rattle.calls.proofs.told.put_part.Statement.{statement}
+use Rattle.calls.proofs.told.put_part.Tie as tie
+
+returns : tie.Need-returns
+unfolding partText
+returns c =
+    let blank = c .before .before in
+    let comma = blank .before .before .before .before in
+    let said = comma .before .before .before .before in
+    let end = two _ _ _ _ _ _ _ _ (one _ _ _ _ _ (comma .put .ensures)) (one _ _ _ _ _ (blank .put2 .ensures)) in
+    two _ _ _ _ _ _ _ _ (said .put-said .ensures) end
+
+pub put-part-spec : {M : Type 1} → statement M
+put-part-spec =
+    tie.close
+    (tie.spec
+    (λ c κs. search needs)
+    (λ c κs. search needs)
+    (λ c κs. search needs)
+    (λ c. search needs)
+    returns)

@@ -1,0 +1,35 @@
+// What a call answers, as text.
+use crate::on_slots::Told;
+use answers::Said;
+use text::put;
+use text::put_said;
+ghost use mathlib.Core.Path.{_≡_};
+ghost use Rattle.text.specs.Text.{putsOf};
+ghost use Rattle.calls.specs.Told.{partText, toldText};
+
+// A part that others follow.
+fn put_part(text: &mut [u8], at: usize, said: Said) -> usize
+    ensures next { λ r. ⌜ r ≡ putsOf (now (text .entry)) at (partText said) .1 ⌝ }
+    ensures left { λ _. ⌜ now (text .exit) ≡ putsOf (now (text .entry)) at (partText said) .0 ⌝ }
+{
+    let next = put_said(text, at, said);
+    let next = put(text, next, b',');
+    put(text, next, b' ')
+}
+
+// An edge on an open slot tells its status and its command first.
+pub fn put_told(text: &mut [u8], at: usize, told: Told) -> usize
+    ensures next { λ r. ⌜ r ≡ putsOf (now (text .entry)) at (toldText told) .1 ⌝ }
+    ensures left { λ _. ⌜ now (text .exit) ≡ putsOf (now (text .entry)) at (toldText told) .0 ⌝ }
+{
+    let said = told.said;
+    if told.is_edge {
+        let head = told.head;
+        let status = head.status;
+        let command = head.command;
+        let next = put_part(text, at, status);
+        let next = put_part(text, next, command);
+        return put_said(text, next, said);
+    }
+    put_said(text, at, said)
+}
