@@ -30,7 +30,7 @@ askOf call =
     (cond (eqb call 6) ask.Total (cond (eqb call 8) ask.Reset (cond (eqb call 10) ask.Poll ask.Command))))
 
 -- open and polled; idle, whose count stands where others have a level; and the others
-abbrev pub onSlot : ℕ → Slot → ℕ → ℕ → Done
+unfoldable pub onSlot : ℕ → Slot → ℕ → ℕ → Done
 onSlot call slot a b =
     cond (eqb call 3 || eqb call 9) (openedAt slot a b)
     (cond (eqb call 11) (askedAt ask.Idle slot false a) (askedAt (askOf call) slot (eqb a 1) b))

@@ -1,14 +1,9 @@
 -- What a call answers, as text.
 use Prim.Native.Nat.{ℕ}
 use mathlib.Core.Bool.{cond}
-use mathlib.Core.List.{List, [], _∷_, _++_}
-use Rattle.answers.specs.declared.Said.{Said}
-use Rattle.text.specs.Text.{chars, saidText}
+use mathlib.Core.List.{List, _++_}
+use Rattle.text.specs.Text.{saidText, partText}
 use Rattle.calls.specs.declared.on_slots.Told.{Told}
-
--- a part that others follow
-unfoldable pub partText : Said → List ℕ
-partText said = saidText said ++ chars ("," ∷ " " ∷ [])
 
 -- an edge on an open slot tells its status and its command first
 unfoldable pub toldText : Told → List ℕ

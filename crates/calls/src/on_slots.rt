@@ -37,9 +37,7 @@ pub fn all_closed() -> Slots
     ensures { λ r. ⌜ r ≡ allClosed ⌝ }
 {
     let s = closed();
-    Slots {
-        slots: [s, s, s, s, s, s, s, s, s, s, s, s, s, s, s, s],
-    }
+    Slots { slots: [s; 16] }
 }
 
 // Where the slot of a call stands.

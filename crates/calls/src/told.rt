@@ -1,21 +1,10 @@
 // What a call answers, as text.
 use crate::on_slots::Told;
-use answers::Said;
-use text::put;
+use text::put_part;
 use text::put_said;
 ghost use mathlib.Core.Path.{_≡_};
 ghost use Rattle.text.specs.Text.{putsOf};
-ghost use Rattle.calls.specs.Told.{partText, toldText};
-
-// A part that others follow.
-fn put_part(text: &mut [u8], at: usize, said: Said) -> usize
-    ensures next { λ r. ⌜ r ≡ putsOf (now (text .entry)) at (partText said) .1 ⌝ }
-    ensures left { λ _. ⌜ now (text .exit) ≡ putsOf (now (text .entry)) at (partText said) .0 ⌝ }
-{
-    let next = put_said(text, at, said);
-    let next = put(text, next, b',');
-    put(text, next, b' ')
-}
+ghost use Rattle.calls.specs.Told.{toldText};
 
 // An edge on an open slot tells its status and its command first.
 pub fn put_told(text: &mut [u8], at: usize, told: Told) -> usize

@@ -9,6 +9,7 @@ use Rattle.text.proofs.put_letters as put-letters
 use Rattle.text.proofs.put_number as put-number
 use Rattle.text.proofs.put_next as put-next
 use Rattle.text.proofs.put_said as put-said
+use Rattle.text.proofs.put_part as put-part
 use Rattle.text.proofs.put_span as put-span
 
 module _ {M : Type 1} (𝓤 : URA M) (H : Heap 𝓤) (𝓜 : Model 𝓤 H) (𝓖 : GhostRules 𝓤 H) (𝓡 : Running 𝓤 H 𝓜) where
@@ -26,6 +27,9 @@ module _ {M : Type 1} (𝓤 : URA M) (H : Heap 𝓤) (𝓜 : Model 𝓤 H) (𝓖
 
   put-said-fixed : Fixed 𝓤 H (𝓖 .A) put-said.ended (put-said.clauses 𝓤 H (𝓖 .A) (𝓜 .mem) (𝓡 .run)) (𝓡 .run put-said.Symbol.routine)
   put-said-fixed = (put-said.Met.met 𝓤 H 𝓜 𝓖 𝓡, λ κs a g h r s v w. both (one & one) (one & one) alike-left)
+
+  put-part-fixed : Fixed 𝓤 H (𝓖 .A) put-part.ended (put-part.clauses 𝓤 H (𝓖 .A) (𝓜 .mem) (𝓡 .run)) (𝓡 .run put-part.Symbol.routine)
+  put-part-fixed = (put-part.Met.met 𝓤 H 𝓜 𝓖 𝓡, λ κs a g h r s v w. both (one & one) (one & one) alike-left)
 
   put-span-fixed : Fixed 𝓤 H (𝓖 .A) put-span.ended (put-span.clauses 𝓤 H (𝓖 .A) (𝓜 .mem) (𝓡 .run)) (𝓡 .run put-span.Symbol.routine)
   put-span-fixed = (put-span.Met.met 𝓤 H 𝓜 𝓖 𝓡, λ κs a g h r s v w. both (one & one) (one & one) alike-left)

@@ -57,5 +57,9 @@ numbersText (suc n) (x ∷ xs) = nextText true x ++ numbersText n xs
 unfoldable pub saidText : Said → List ℕ
 saidText said = letters 8 (said .head) ++ letters 8 (said .tail) ++ numbersText (said .count) (said .numbers)
 
+-- an answer that others follow on the line
+unfoldable pub partText : Said → List ℕ
+partText said = saidText said ++ chars ("," ∷ " " ∷ [])
+
 unfoldable pub spanText : ℕ → ℕ → List ℕ
 spanText low high = decimal low ++ chars ("." ∷ "." ∷ []) ++ decimal high

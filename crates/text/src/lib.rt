@@ -1,7 +1,7 @@
 // Text that gathers in a lent slice. Each function takes the place where its text starts, and answers the next one.
 use answers::Said;
 ghost use mathlib.Core.Path.{_≡_};
-ghost use Rattle.text.specs.Text.{putOf, putsOf, firstLetter, otherLetters, letters, digitAt, decimal, nextText, numbersText, saidText, spanText};
+ghost use Rattle.text.specs.Text.{putOf, putsOf, firstLetter, otherLetters, letters, digitAt, decimal, nextText, numbersText, saidText, partText, spanText};
 
 // A character, where there is room; 0 is none.
 pub fn put(text: &mut [u8], at: usize, b: u8) -> usize
@@ -111,6 +111,16 @@ pub fn put_said(text: &mut [u8], at: usize, said: Said) -> usize
     let next = put_letters(text, next, said.tail);
     let numbers = said.numbers;
     put_numbers(text, next, &numbers, said.count)
+}
+
+// An answer that others follow on the line.
+pub fn put_part(text: &mut [u8], at: usize, said: Said) -> usize
+    ensures next { λ r. ⌜ r ≡ putsOf (now (text .entry)) at (partText said) .1 ⌝ }
+    ensures left { λ _. ⌜ now (text .exit) ≡ putsOf (now (text .entry)) at (partText said) .0 ⌝ }
+{
+    let next = put_said(text, at, said);
+    let next = put(text, next, b',');
+    put(text, next, b' ')
 }
 
 // The two ends of a span, and two dots between them.

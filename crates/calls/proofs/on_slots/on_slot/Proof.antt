@@ -8,7 +8,7 @@ use Rattle.slots.specs.Slots.{openedAt, askedAt}
 use Rattle.slots.specs.declared.Done.{Done}
 use Rattle.slots.specs.declared.Ask.{Ask}
 use Rattle.slots.specs.declared.Ask.the-variants as ask
-use Rattle.calls.specs.OnSlots.{askOf}
+use Rattle.calls.specs.OnSlots.{askOf, onSlot}
 use Rattle.calls.proofs.on_slots.on_slot.Statement.{statement}
 use Rattle.calls.proofs.on_slots.on_slot.Tie as tie
 
@@ -17,17 +17,21 @@ none : (p q s : Bool) (x y z r : Done) → p ≡ false → q ≡ false → s ≡
 none p q s x y z r e f g h = simp (e, f, g) h
 
 returns : tie.Need-returns
+unfolding onSlot
 returns c = simp (eq-eqb _ _ (c .before .if1 .taken)) (c .opened .ensures)
 
 returns-2 : tie.Need-returns-2
+unfolding onSlot
 returns-2 c =
     simp (ne-eqb _ _ (c .before .before .if1 .left), eq-eqb _ _ (c .before .if2 .taken)) (c .opened2 .ensures)
 
 returns-3 : tie.Need-returns-3
+unfolding onSlot
 returns-3 c =
     simp (ne-eqb _ _ (c .before .before .before .if1 .left), ne-eqb _ _ (c .before .before .if2 .left), eq-eqb _ _ (c .before .if3 .taken)) (c .asked .ensures)
 
 returns-4 : tie.Need-returns-4
+unfolding onSlot
 returns-4 c =
     let args = c .before .before .before .before .before .args in
     let slot = args .slot in

@@ -1,9 +1,9 @@
--- `calls::told::put_part` meets its contract: its parts are put one behind the other. Assumes nothing.
+-- `text::put_part` meets its contract: its parts are put one behind the other. Assumes nothing.
 use Rattle.text.proofs.Puts.{one, two}
-use Rattle.calls.specs.Told.{partText}
+use Rattle.text.specs.Text.{partText}
 use borrow.Author.Needs.{needs}
-use Rattle.calls.proofs.told.put_part.Statement.{statement}
-use Rattle.calls.proofs.told.put_part.Tie as tie
+use Rattle.text.proofs.put_part.Statement.{statement}
+use Rattle.text.proofs.put_part.Tie as tie
 
 returns : tie.Need-returns
 unfolding partText
