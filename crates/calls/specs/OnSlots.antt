@@ -36,15 +36,15 @@ onSlot call slot a b =
     (cond (eqb call 11) (askedAt ask.Idle slot false a) (askedAt (askOf call) slot (eqb a 1) b))
 
 -- an edge on an open slot tells its status and its command first
-abbrev pub isEdge : ℕ → Slot → Bool
-isEdge call slot = eqb call 6 && slot .is_open
+abbrev pub isEdge : ℕ → Bool → Bool
+isEdge call opened = eqb call 6 && opened
 
 abbrev pub answeredBy : ℕ → ℕ → ℕ → ℕ → Slots → Outcome
 answeredBy call place a b slots =
     let slot = getD (slots .slots) place closedSlot in
     let done = onSlot call slot a b in
     record {
-      told = record { «is_edge» = isEdge call slot; head = headOf slot (eqb a 1) b; said = done .said };
+      told = record { «is_edge» = isEdge call (slot .is_open); head = headOf slot (eqb a 1) b; said = done .said };
       slots = record { slots = set (slots .slots) place (done .slot) };
     }
 

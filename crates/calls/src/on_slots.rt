@@ -78,10 +78,10 @@ fn on_slot(call: usize, slot: Slot, a: u32, b: u32) -> Done
     asked(ask_of(call), slot, a == 1, b)
 }
 
-fn is_edge(call: usize, slot: Slot) -> bool
-    ensures { λ r. ⌜ r ≡ isEdge call slot ⌝ }
+fn is_edge(call: usize, is_open: bool) -> bool
+    ensures { λ r. ⌜ r ≡ isEdge call «is_open» ⌝ }
 {
-    call == crate::EDGE && slot.is_open
+    call == crate::EDGE && is_open
 }
 
 fn answered_by(call: usize, place: usize, a: u32, b: u32, slots: Slots) -> Outcome
@@ -96,7 +96,7 @@ fn answered_by(call: usize, place: usize, a: u32, b: u32, slots: Slots) -> Outco
     let left = done.slot;
     after.slots[place] = left;
     let told = Told {
-        is_edge: is_edge(call, slot),
+        is_edge: is_edge(call, slot.is_open),
         head,
         said,
     };

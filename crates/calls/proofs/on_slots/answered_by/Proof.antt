@@ -18,7 +18,7 @@ returns c =
     let within : args .place < length (args .slots .slots) = below-length Slot (args .slots .slots) (args .place) 16 (sym (length-map (args .slots .slots) _) ∙ good .1 .1 .1 .1 .0 .1 .1 .0 .1 .0 .1) (search needs) in
     let same = read-any (args .slots .slots) (args .place) _ closedSlot within in
     made (args .slots .slots) (args .place)
-    (c .is-edge .ensures ∙ ap (isEdge (args .call)) same)
+    (c .is-edge .ensures ∙ ap (λ (slot : Slot). isEdge (args .call) (slot .is_open)) same)
     (c .before .before .before .before .head-of .ensures ∙ ap (λ (slot : Slot). headOf slot (eqb (args .a) 1) (args .b)) same)
     (c .before .before .before .on-slot .ensures ∙ ap (λ (slot : Slot). onSlot (args .call) slot (args .a) (args .b)) same)
 
