@@ -2,20 +2,19 @@
 // The calls and their answers are listed in README.md, "The call language".
 mod on_frames;
 mod on_spans;
-mod out;
 
 use calls::call_of;
 use calls::on_slots::Slots;
 use calls::on_slots::Told;
 use calls::on_slots::all_closed;
 use calls::on_slots::answered;
+use calls::told::put_told;
 use libc::STDERR_FILENO;
 use libc::STDIN_FILENO;
 use libc::STDOUT_FILENO;
 use on_frames::put_encode_call;
 use on_spans::put_spans_call;
-use out::put;
-use out::put_told;
+use text::put;
 use words::Line;
 use words::fresh;
 use words::is_begun;

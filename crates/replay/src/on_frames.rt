@@ -1,11 +1,11 @@
 // The call on frames: encode PROTOCOL RATE ADDRESS COMMAND START TOGGLE ROOM.
-use crate::out::put_next;
-use crate::out::put_said;
 use answers::of_encoded;
 use answers::of_kept;
 use calls::on_frames::encode;
 use calls::on_frames::kept;
 use calls::on_frames::written;
+use text::put_next;
+use text::put_said;
 
 fn wide(x: u32) -> u64 {
     x as u64
