@@ -8,7 +8,6 @@ use Rattle.determined.specs.Determined.{Fixed, both, one, _&_, alike, alike-lef
 use Rattle.calls.proofs.call_of as call-of
 use Rattle.calls.proofs.on_slots.all_closed as all-closed
 use Rattle.calls.proofs.on_frames.kept as kept
-use Rattle.calls.proofs.on_frames.written as written
 use Rattle.calls.proofs.on_frames.encode as encode
 use Rattle.calls.proofs.on_slots.answered as answered
 use Rattle.calls.proofs.told.put_told as put-told
@@ -25,9 +24,6 @@ module _ {M : Type 1} (𝓤 : URA M) (H : Heap 𝓤) (𝓜 : Model 𝓤 H) (𝓖
 
   kept-fixed : Fixed 𝓤 H (𝓖 .A) kept.ended (kept.clauses 𝓤 H (𝓖 .A) (𝓜 .mem) (𝓡 .run)) (𝓡 .run kept.Symbol.routine)
   kept-fixed = (kept.Met.met 𝓤 H 𝓜 𝓖 𝓡, λ κs a g h r s v w. both one one alike)
-
-  written-fixed : Fixed 𝓤 H (𝓖 .A) written.ended (written.clauses 𝓤 H (𝓖 .A) (𝓜 .mem) (𝓡 .run)) (𝓡 .run written.Symbol.routine)
-  written-fixed = (written.Met.met 𝓤 H 𝓜 𝓖 𝓡, λ κs a g h r s v w. both one one alike)
 
   encode-fixed : Fixed 𝓤 H (𝓖 .A) encode.ended (encode.clauses 𝓤 H (𝓖 .A) (𝓜 .mem) (𝓡 .run)) (𝓡 .run encode.Symbol.routine)
   encode-fixed =

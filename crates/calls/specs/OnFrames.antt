@@ -6,7 +6,6 @@ use lib.Dec.{eqb}
 use lib.ListN.{getD, drop}
 use Rattle.frames.specs.Filled.{filled}
 use Rattle.frames.specs.declared.Encoded.{Encoded}
-use Rattle.frames.specs.declared.Encoded.the-variants as encoded
 use Rattle.receiver.specs.Encoder.{encodedBy, leftBy, frameBy}
 
 abbrev pub mark : ℕ → ℕ
@@ -23,12 +22,6 @@ marksIn place (x ∷ xs) = cond (eqb x (mark place)) 1 0 + marksIn (place + 1) x
 
 unfoldable pub keptFrom : List ℕ → ℕ → ℕ
 keptFrom lent from = marksIn from (drop from lent)
-
--- how many durations were written
-abbrev pub writtenOf : Encoded → ℕ
-writtenOf (encoded.Wrote count) = count
-writtenOf (encoded.Refused number) = 0
-writtenOf (encoded.Short needed) = 0
 
 -- encode PROTOCOL RATE ADDRESS COMMAND START TOGGLE ROOM
 abbrev pub frameAt : List ℕ → List ℕ

@@ -6,7 +6,7 @@ ghost use mathlib.Core.Path.{_≡_};
 ghost use mathlib.Core.Bool.{cond};
 ghost use Prim.Native.Nat.{_≤_};
 ghost use lib.Dec.{eqb};
-ghost use Rattle.calls.specs.OnFrames.{mark, marked, keptFrom, writtenOf, encodedAt, leftAt};
+ghost use Rattle.calls.specs.OnFrames.{mark, marked, keptFrom, encodedAt, leftAt};
 
 // What a place holds before the call.
 fn mark_of(place: usize) -> u32
@@ -43,17 +43,6 @@ pub fn kept(lent: &[u32], from: usize) -> usize
         i += 1;
     }
     count
-}
-
-// How many durations were written.
-pub fn written(encoded: Encoded) -> usize
-    ensures { λ r. ⌜ r ≡ writtenOf encoded ⌝ }
-{
-    match encoded {
-        Encoded::Wrote(count) => count,
-        Encoded::Refused(_) => 0,
-        Encoded::Short(_) => 0,
-    }
 }
 
 // Marks the places that are lent, and encodes into them.

@@ -55,6 +55,12 @@ encodedLength (Wrote count) = count
 encodedLength (Refused number) = 0
 encodedLength (Short needed) = needed
 
+-- how many durations were written
+abbrev pub writtenOf : Encoded → ℕ
+writtenOf (Wrote count) = count
+writtenOf (Refused number) = 0
+writtenOf (Short needed) = 0
+
 -- every duration of a frame fits 32 bits
 pub data Fit : List ℕ → Type 0 where
   none : Fit []

@@ -1,6 +1,6 @@
 // Document 01, "Frames": what is common to all encoders. Their answer, the scaling of NEC and RC5, and a bit of the packed command.
 ghost use mathlib.Core.Path.{_≡_};
-ghost use Rattle.frames.specs.Frames.{scaledOf, bitSet, encodedLength};
+ghost use Rattle.frames.specs.Frames.{scaledOf, bitSet, encodedLength, writtenOf};
 
 // What an encoder answers: the durations written; a refusal number; refusal 3 with the length needed.
 pub enum Encoded {
@@ -17,6 +17,17 @@ pub fn encoded_length(encoded: Encoded) -> usize
         Encoded::Wrote(count) => count,
         Encoded::Refused(_) => 0,
         Encoded::Short(needed) => needed,
+    }
+}
+
+// How many durations were written.
+pub fn written(encoded: Encoded) -> usize
+    ensures { λ r. ⌜ r ≡ writtenOf encoded ⌝ }
+{
+    match encoded {
+        Encoded::Wrote(count) => count,
+        Encoded::Refused(_) => 0,
+        Encoded::Short(_) => 0,
     }
 }
 

@@ -3,7 +3,7 @@ use answers::of_encoded;
 use answers::of_kept;
 use calls::on_frames::encode;
 use calls::on_frames::kept;
-use calls::on_frames::written;
+use frames::written;
 use text::put_next;
 use text::put_said;
 

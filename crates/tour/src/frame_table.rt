@@ -4,7 +4,8 @@ use crate::out::print;
 use crate::out::print_number;
 use crate::out::print_said;
 use answers::of_encoded;
-use frames::Encoded;
+use frames::written;
+use receiver::encoder::encode;
 
 fn print_frame(protocol: u32, rate: u32, places: &[u32], count: usize) {
     print_number(count as u64);
@@ -12,14 +13,6 @@ fn print_frame(protocol: u32, rate: u32, places: &[u32], count: usize) {
     edges::print_head();
     if count <= places.len() {
         edges::feed_fresh(protocol, rate, true, 0, &places[..count]);
-    }
-}
-
-fn print_encoded(protocol: u32, rate: u32, places: &[u32], encoded: Encoded) {
-    match encoded {
-        Encoded::Wrote(count) => print_frame(protocol, rate, places, count),
-        Encoded::Refused(number) => print_said(of_encoded(Encoded::Refused(number))),
-        Encoded::Short(length) => print_said(of_encoded(Encoded::Short(length))),
     }
 }
 
@@ -33,8 +26,13 @@ pub fn show(
     toggle: bool,
     room: &mut [u32],
 ) {
-    let encoded = receiver::encoder::encode(protocol, rate, addr, cmd, start, toggle, room);
-    print_encoded(protocol, rate, room, encoded);
+    let encoded = encode(protocol, rate, addr, cmd, start, toggle, room);
+    let count = written(encoded);
+    if 0 < count {
+        print_frame(protocol, rate, room, count);
+    } else {
+        print_said(of_encoded(encoded));
+    }
 }
 
 // In room for every frame.
