@@ -11,14 +11,10 @@ pub fn put_told(text: &mut [u8], at: usize, told: Told) -> usize
     ensures next { λ r. ⌜ r ≡ putsOf (now (text .entry)) at (toldText told) .1 ⌝ }
     ensures left { λ _. ⌜ now (text .exit) ≡ putsOf (now (text .entry)) at (toldText told) .0 ⌝ }
 {
-    let said = told.said;
     if told.is_edge {
-        let head = told.head;
-        let status = head.status;
-        let command = head.command;
-        let next = put_part(text, at, status);
-        let next = put_part(text, next, command);
-        return put_said(text, next, said);
+        let next = put_part(text, at, told.head.status);
+        let next = put_part(text, next, told.head.command);
+        return put_said(text, next, told.said);
     }
-    put_said(text, at, said)
+    put_said(text, at, told.said)
 }

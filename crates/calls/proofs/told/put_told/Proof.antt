@@ -22,7 +22,7 @@ returns c =
     let said = c .before .before in
     let command = said .before .before .before .before in
     let status = command .before .before .before .before in
-    let test = status .before .before .before .before .before in
+    let test = status .before .before in
     same _ _ _ _ _ _ (edge _ _ _ (test .if1 .taken)) (two _ _ _ _ _ _ _ _ (two _ _ _ _ _ _ _ _ (status .put-part .ensures) (command .put-part2 .ensures)) (said .put-said .ensures))
 
 returns-2 : tie.Need-returns-2
