@@ -4,23 +4,8 @@ use answers::of_kept;
 use calls::on_frames::encode;
 use calls::on_frames::kept;
 use frames::written;
-use text::put_next;
+use text::put_durations;
 use text::put_said;
-
-fn wide(x: u32) -> u64 {
-    x as u64
-}
-
-// The durations behind the count.
-fn put_durations(text: &mut [u8], at: usize, lent: &[u32], count: usize) -> usize {
-    let mut next = at;
-    let mut i: usize = 0;
-    while i < lent.len() {
-        next = put_next(text, next, i < count, wide(lent[i]));
-        i += 1;
-    }
-    next
-}
 
 // Encodes into a lent slice of so many places.
 fn put_frame(text: &mut [u8], at: usize, n: &[u64; 8], lent: &mut [u32]) -> usize {

@@ -8,9 +8,11 @@ use Rattle.text.proofs.put as put
 use Rattle.text.proofs.put_letters as put-letters
 use Rattle.text.proofs.put_number as put-number
 use Rattle.text.proofs.put_next as put-next
+use Rattle.text.proofs.put_durations as put-durations
 use Rattle.text.proofs.put_said as put-said
 use Rattle.text.proofs.put_part as put-part
 use Rattle.text.proofs.put_span as put-span
+use Rattle.text.proofs.put_spans as put-spans
 
 module _ {M : Type 1} (𝓤 : URA M) (H : Heap 𝓤) (𝓜 : Model 𝓤 H) (𝓖 : GhostRules 𝓤 H) (𝓡 : Running 𝓤 H 𝓜) where
   put-fixed : Fixed 𝓤 H (𝓖 .A) put.ended (put.clauses 𝓤 H (𝓖 .A) (𝓜 .mem) (𝓡 .run)) (𝓡 .run put.Symbol.routine)
@@ -25,6 +27,9 @@ module _ {M : Type 1} (𝓤 : URA M) (H : Heap 𝓤) (𝓜 : Model 𝓤 H) (𝓖
   put-next-fixed : Fixed 𝓤 H (𝓖 .A) put-next.ended (put-next.clauses 𝓤 H (𝓖 .A) (𝓜 .mem) (𝓡 .run)) (𝓡 .run put-next.Symbol.routine)
   put-next-fixed = (put-next.Met.met 𝓤 H 𝓜 𝓖 𝓡, λ κs a g h r s v w. both (one & one) (one & one) alike-left)
 
+  put-durations-fixed : Fixed 𝓤 H (𝓖 .A) put-durations.ended (put-durations.clauses 𝓤 H (𝓖 .A) (𝓜 .mem) (𝓡 .run)) (𝓡 .run put-durations.Symbol.routine)
+  put-durations-fixed = (put-durations.Met.met 𝓤 H 𝓜 𝓖 𝓡, λ κs a g h r s v w. both (one & one) (one & one) alike-left)
+
   put-said-fixed : Fixed 𝓤 H (𝓖 .A) put-said.ended (put-said.clauses 𝓤 H (𝓖 .A) (𝓜 .mem) (𝓡 .run)) (𝓡 .run put-said.Symbol.routine)
   put-said-fixed = (put-said.Met.met 𝓤 H 𝓜 𝓖 𝓡, λ κs a g h r s v w. both (one & one) (one & one) alike-left)
 
@@ -33,3 +38,6 @@ module _ {M : Type 1} (𝓤 : URA M) (H : Heap 𝓤) (𝓜 : Model 𝓤 H) (𝓖
 
   put-span-fixed : Fixed 𝓤 H (𝓖 .A) put-span.ended (put-span.clauses 𝓤 H (𝓖 .A) (𝓜 .mem) (𝓡 .run)) (𝓡 .run put-span.Symbol.routine)
   put-span-fixed = (put-span.Met.met 𝓤 H 𝓜 𝓖 𝓡, λ κs a g h r s v w. both (one & one) (one & one) alike-left)
+
+  put-spans-fixed : Fixed 𝓤 H (𝓖 .A) put-spans.ended (put-spans.clauses 𝓤 H (𝓖 .A) (𝓜 .mem) (𝓡 .run)) (𝓡 .run put-spans.Symbol.routine)
+  put-spans-fixed = (put-spans.Met.met 𝓤 H 𝓜 𝓖 𝓡, λ κs a g h r s v w. both (one & one) (one & one) alike-left)

@@ -10,7 +10,8 @@ use lib.Dec.{ltb}
 use lib.ListN.{length, getD, drop, drop-of-length-le}
 use lib.Seq.{drop-cons}
 use borrow.Author.Tests.{ltb-true, ltb-false}
-use Rattle.text.specs.Text.{putsOf, firstLetter, otherLetters, letters, digitAt, digitsOf, nextText, numbersText}
+use Rattle.spans.specs.declared.Spans.{Spans}
+use Rattle.text.specs.Text.{putsOf, firstLetter, otherLetters, letters, digitAt, digitsOf, nextText, numbersText, spanText, gapAt, spansFrom}
 use Rattle.text.proofs.Puts.{PutChar, Put, behind-char, behind-text, told}
 
 letters-next : (n word : ℕ) → 0 < n → firstLetter word ∷ letters (n - 1) (otherLetters word) ≡ letters n word
@@ -65,6 +66,18 @@ no-numbers : (n i : ℕ) (ns : List ℕ) → length ns ≤ i → [] ≡ numbersT
 no-numbers n i ns h =
     none-of n ∙ ap (λ (xs : List ℕ). numbersText n xs) (sym (drop-of-length-le ns {i = i} h))
 
+spans-next : (n place : ℕ) (spans : Spans) → 0 < n → (gapAt place ∷ spanText (getD (spans .low) place 0) (getD (spans .high) place 0)) ++ spansFrom (n - 1) (place + 1) spans ≡ spansFrom n place spans
+unfolding spansFrom
+spans-next zero place spans h = absurd (not-suc-le-zero h)
+spans-next (suc n) place spans h =
+    let e : suc n - 1 ≡ n = omega arith in
+    ap (λ (m : ℕ). (gapAt place ∷ spanText (getD (spans .low) place 0) (getD (spans .high) place 0)) ++ spansFrom m (place + 1) spans) e
+
+no-spans : (n place : ℕ) (spans : Spans) → n ≤ 0 → [] ≡ spansFrom n place spans
+unfolding spansFrom
+no-spans zero place spans h = refl
+no-spans (suc n) place spans h = absurd (not-suc-le-zero h)
+
 -- what is left to put gives the whole
 module _ (text : List ℕ) (next : ℕ) (left : List ℕ) (after : ℕ) (whole : List ℕ × ℕ) where
   pub letter-put : (n word b rest : ℕ) → 0 < n → putsOf text next (letters n word) ≡ whole → PutChar text next b left after → b ≡ firstLetter word → rest ≡ otherLetters word → putsOf left after (letters (n - 1) rest) ≡ whole
@@ -77,9 +90,18 @@ module _ (text : List ℕ) (next : ℕ) (left : List ℕ) (after : ℕ) (whole :
       behind-char text next left after (digitsOf (n - 1) (power / 10) x) b p ∙ (λ i. putsOf text next (e i ∷ digitsOf (n - 1) (power / 10) x)) ∙ ap (λ (bs : List ℕ). putsOf text next bs) (digits-next n power x h)
       ∙ inv
 
-  pub number-put : (count i : ℕ) (ns : List ℕ) (is-said : Bool) → i < length ns → putsOf text next (numbersText (count - i) (drop i ns)) ≡ whole → Put text next (nextText is-said (getD ns i 0)) left after → is-said ≡ ltb i count → putsOf left after (numbersText (count - (i + 1)) (drop (i + 1) ns)) ≡ whole
-  number-put count i ns is-said h inv p e =
-      behind-text text next left after (numbersText (count - (i + 1)) (drop (i + 1) ns)) (nextText is-said (getD ns i 0)) p ∙ ap (λ (bs : List ℕ). putsOf text next bs) (numbers-next count i ns h is-said e)
+  pub number-put : (count i : ℕ) (ns : List ℕ) (is-said : Bool) (x : ℕ) → i < length ns → putsOf text next (numbersText (count - i) (drop i ns)) ≡ whole → Put text next (nextText is-said x) left after → is-said ≡ ltb i count → x ≡ getD ns i 0 → putsOf left after (numbersText (count - (i + 1)) (drop (i + 1) ns)) ≡ whole
+  number-put count i ns is-said x h inv p e f =
+      let cs = numbersText (count - (i + 1)) (drop (i + 1) ns) in
+      behind-text text next left after cs (nextText is-said x) p ∙ (λ j. putsOf text next (nextText is-said (f j) ++ cs)) ∙ ap (λ (bs : List ℕ). putsOf text next bs) (numbers-next count i ns h is-said e)
+      ∙ inv
+
+  -- a blank or none, and the span behind it
+  pub span-put : (n place b : ℕ) (spans : Spans) (text₁ : List ℕ) (next₁ : ℕ) → 0 < n → putsOf text next (spansFrom n place spans) ≡ whole → PutChar text next b text₁ next₁ → b ≡ gapAt place → Put text₁ next₁ (spanText (getD (spans .low) place 0) (getD (spans .high) place 0)) left after → putsOf left after (spansFrom (n - 1) (place + 1) spans) ≡ whole
+  span-put n place b spans text₁ next₁ h inv p e q =
+      let bs = spanText (getD (spans .low) place 0) (getD (spans .high) place 0) in
+      let cs = spansFrom (n - 1) (place + 1) spans in
+      behind-text text₁ next₁ left after cs bs q ∙ behind-char text next text₁ next₁ (bs ++ cs) b p ∙ (λ i. putsOf text next (e i ∷ (bs ++ cs))) ∙ ap (λ (ds : List ℕ). putsOf text next ds) (spans-next n place spans h)
       ∙ inv
 
 pub numbers-start : (text : List ℕ) (next count : ℕ) (ns : List ℕ) → putsOf text next (numbersText (count - 0) ns) ≡ putsOf text next (numbersText count ns)
@@ -100,3 +122,6 @@ module _ (text : List ℕ) (at : ℕ) (bs left : List ℕ) (next : ℕ) where
 
   pub numbers-put : (n i : ℕ) (ns : List ℕ) → length ns ≤ i → putsOf left next (numbersText n (drop i ns)) ≡ putsOf text at bs → Put text at bs left next
   numbers-put n i ns h inv = all (numbersText n (drop i ns)) (no-numbers n i ns h) inv
+
+  pub spans-put : (n place : ℕ) (spans : Spans) → n ≤ 0 → putsOf left next (spansFrom n place spans) ≡ putsOf text at bs → Put text at bs left next
+  spans-put n place spans h inv = all (spansFrom n place spans) (no-spans n place spans h) inv

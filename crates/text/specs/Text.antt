@@ -4,7 +4,8 @@ use Prim.Native.Char.{Char, code}
 use mathlib.Core.Bool.{Bool, true, cond, _&&_}
 use mathlib.Core.List.{List, [], _∷_, _++_, map}
 use lib.Dec.{leb, ltb}
-use lib.ListN.{length, set}
+use lib.ListN.{length, getD, set}
+use Rattle.spans.specs.declared.Spans.{Spans}
 use Rattle.answers.specs.declared.Said.{Said}
 
 -- a character at a place, where there is room; 0 is none
@@ -63,3 +64,16 @@ partText said = saidText said ++ chars ("," ∷ " " ∷ [])
 
 unfoldable pub spanText : ℕ → ℕ → List ℕ
 spanText low high = decimal low ++ chars ("." ∷ "." ∷ []) ++ decimal high
+
+-- a blank before each place but the first
+abbrev pub gapAt : ℕ → ℕ
+gapAt place = cond (ltb 0 place) (code " ") 0
+
+-- the spans at so many places, from a place on
+unfoldable pub spansFrom : ℕ → ℕ → Spans → List ℕ
+spansFrom zero place spans = []
+spansFrom (suc n) place spans =
+    (gapAt place ∷ spanText (getD (spans .low) place 0) (getD (spans .high) place 0)) ++ spansFrom n (place + 1) spans
+
+unfoldable pub spansText : Spans → List ℕ
+spansText spans = spansFrom 8 0 spans

@@ -1,7 +1,8 @@
 // Text that gathers in a lent slice. Each function takes the place where its text starts, and answers the next one.
 use answers::Said;
+use spans::Spans;
 ghost use mathlib.Core.Path.{_≡_};
-ghost use Rattle.text.specs.Text.{putOf, putsOf, firstLetter, otherLetters, letters, digitAt, decimal, nextText, numbersText, saidText, partText, spanText};
+ghost use Rattle.text.specs.Text.{putOf, putsOf, firstLetter, otherLetters, letters, digitAt, decimal, nextText, numbersText, saidText, partText, spanText, gapAt, spansText};
 
 // A character, where there is room; 0 is none.
 pub fn put(text: &mut [u8], at: usize, b: u8) -> usize
@@ -102,6 +103,26 @@ fn put_numbers(text: &mut [u8], at: usize, numbers: &[u64], count: usize) -> usi
     next
 }
 
+fn wide(x: u32) -> u64
+    ensures { λ r. ⌜ r ≡ x ⌝ }
+{
+    x as u64
+}
+
+// The same of durations.
+pub fn put_durations(text: &mut [u8], at: usize, durations: &[u32], count: usize) -> usize
+    ensures next { λ r. ⌜ r ≡ putsOf (now (text .entry)) at (numbersText count (now (durations .entry))) .1 ⌝ }
+    ensures left { λ _. ⌜ now (text .exit) ≡ putsOf (now (text .entry)) at (numbersText count (now (durations .entry))) .0 ⌝ }
+{
+    let mut next = at;
+    let mut i: usize = 0;
+    while i < durations.len() {
+        next = put_next(text, next, i < count, wide(durations[i]));
+        i += 1;
+    }
+    next
+}
+
 // What a call answers: its text, and the numbers behind it.
 pub fn put_said(text: &mut [u8], at: usize, said: Said) -> usize
     ensures next { λ r. ⌜ r ≡ putsOf (now (text .entry)) at (saidText said) .1 ⌝ }
@@ -132,4 +153,26 @@ pub fn put_span(text: &mut [u8], at: usize, low: u32, high: u32) -> usize
     let next = put(text, next, b'.');
     let next = put(text, next, b'.');
     put_number(text, next, high as u64)
+}
+
+// A blank before each place but the first.
+fn gap(place: usize) -> u8
+    ensures { λ r. ⌜ r ≡ gapAt place ⌝ }
+{
+    if 0 < place { b' ' } else { 0 }
+}
+
+// The span at each of the eight places.
+pub fn put_spans(text: &mut [u8], at: usize, spans: Spans) -> usize
+    ensures next { λ r. ⌜ r ≡ putsOf (now (text .entry)) at (spansText spans) .1 ⌝ }
+    ensures left { λ _. ⌜ now (text .exit) ≡ putsOf (now (text .entry)) at (spansText spans) .0 ⌝ }
+{
+    let mut next = at;
+    let mut place: usize = 0;
+    while place < 8 {
+        next = put(text, next, gap(place));
+        next = put_span(text, next, spans.low[place], spans.high[place]);
+        place += 1;
+    }
+    next
 }
