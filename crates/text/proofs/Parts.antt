@@ -1,4 +1,4 @@
--- One step and the end of each loop: through letters, digits and numbers. Assumes nothing.
+-- One step and the end of each loop: through letters, digits, numbers and spans. Assumes nothing.
 use Prim.Native.Nat.{ℕ, zero, suc, _+_, _-_, _/_, _≤_, _<_}
 use mathlib.Core.Path.{_≡_, refl, sym, ap, _∙_}
 use mathlib.Core.Bool.{Bool, true, false}

@@ -17,6 +17,7 @@ unfoldable pub putsOf : List ℕ → ℕ → List ℕ → List ℕ × ℕ
 putsOf text at [] = (text, at)
 putsOf text at (b ∷ bs) = putsOf (putOf text at b .0) (putOf text at b .1) bs
 
+-- characters by their codes
 abbrev pub chars : List Char → List ℕ
 chars cs = map code cs
 
@@ -49,12 +50,13 @@ decimal x = digitsOf 20 (10 ^ 19) x
 unfoldable pub nextText : Bool → ℕ → List ℕ
 nextText said x = cond said (chars (" " ∷ []) ++ decimal x) []
 
--- the first of the numbers, so many
+-- the first of the numbers, so many, each behind a blank
 unfoldable pub numbersText : ℕ → List ℕ → List ℕ
 numbersText zero ns = []
 numbersText (suc n) [] = []
 numbersText (suc n) (x ∷ xs) = nextText true x ++ numbersText n xs
 
+-- an answer: its text, and the numbers behind it
 unfoldable pub saidText : Said → List ℕ
 saidText said = letters 8 (said .head) ++ letters 8 (said .tail) ++ numbersText (said .count) (said .numbers)
 
@@ -62,6 +64,7 @@ saidText said = letters 8 (said .head) ++ letters 8 (said .tail) ++ numbersText 
 unfoldable pub partText : Said → List ℕ
 partText said = saidText said ++ chars ("," ∷ " " ∷ [])
 
+-- the two ends of a span
 unfoldable pub spanText : ℕ → ℕ → List ℕ
 spanText low high = decimal low ++ chars ("." ∷ "." ∷ []) ++ decimal high
 
@@ -75,5 +78,6 @@ spansFrom zero place spans = []
 spansFrom (suc n) place spans =
     (gapAt place ∷ spanText (getD (spans .low) place 0) (getD (spans .high) place 0)) ++ spansFrom n (place + 1) spans
 
+-- the spans at all eight
 unfoldable pub spansText : Spans → List ℕ
 spansText spans = spansFrom 8 0 spans

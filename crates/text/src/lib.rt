@@ -109,7 +109,7 @@ fn wide(x: u32) -> u64
     x as u64
 }
 
-// The same of durations.
+// The first of the durations, each behind a blank.
 pub fn put_durations(text: &mut [u8], at: usize, durations: &[u32], count: usize) -> usize
     ensures next { λ r. ⌜ r ≡ putsOf (now (text .entry)) at (numbersText count (now (durations .entry))) .1 ⌝ }
     ensures left { λ _. ⌜ now (text .exit) ≡ putsOf (now (text .entry)) at (numbersText count (now (durations .entry))) .0 ⌝ }

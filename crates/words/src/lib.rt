@@ -1,4 +1,4 @@
-// Words of text and decimal numbers, a character at a time: what the programs that read and print calls share.
+// A line of text and decimal numbers, a character at a time: what the programs read.
 ghost use mathlib.Core.Path.{_≡_};
 ghost use Prim.Native.Nat.{_%_};
 ghost use Rattle.words.specs.Words.{freshLine, brokenLine, letterOn, isBegun, isRoom, digitOn, isLetter, isDigit, spelledOn, namedOn, readBy, digitFed, blankFed, fedOf};
