@@ -33,7 +33,7 @@ fn other_letters(word: u64) -> u64
 }
 
 // The digits of base 256 as characters, the highest first.
-pub fn put_letters(text: &mut [u8], at: usize, word: u64) -> usize
+fn put_letters(text: &mut [u8], at: usize, word: u64) -> usize
     ensures next { λ r. ⌜ r ≡ putsOf (now (text .entry)) at (letters 8 word) .1 ⌝ }
     ensures left { λ _. ⌜ now (text .exit) ≡ putsOf (now (text .entry)) at (letters 8 word) .0 ⌝ }
 {
@@ -78,7 +78,7 @@ pub fn put_number(text: &mut [u8], at: usize, x: u64) -> usize
 }
 
 // A number behind a blank, where it is one of those said.
-pub fn put_next(text: &mut [u8], at: usize, is_said: bool, x: u64) -> usize
+fn put_next(text: &mut [u8], at: usize, is_said: bool, x: u64) -> usize
     ensures next { λ r. ⌜ r ≡ putsOf (now (text .entry)) at (nextText «is_said» x) .1 ⌝ }
     ensures left { λ _. ⌜ now (text .exit) ≡ putsOf (now (text .entry)) at (nextText «is_said» x) .0 ⌝ }
 {
