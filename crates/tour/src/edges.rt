@@ -2,11 +2,12 @@
 use crate::out::print;
 use crate::out::print_gap;
 use crate::out::print_newline;
-use crate::out::print_report;
 use crate::out::print_right;
+use crate::out::print_said;
+use answers::Said;
 use answers::is_nothing;
+use answers::of_report;
 use receiver::decoder::Decoder;
-use reports::Report;
 
 pub fn print_head() {
     print(b" edge level     after  reports");
@@ -20,13 +21,13 @@ fn print_level(rising: bool) {
     }
 }
 
-fn print_line(i: usize, rising: bool, duration: u32, report: Report) {
+fn print_line(i: usize, rising: bool, duration: u32, said: Said) {
     print_newline();
     print_right(5, (i % 1000) as u64 + 1);
     print_level(rising);
     print_right(10, duration as u64);
     print_gap();
-    print_report(report);
+    print_said(said);
 }
 
 // All edges are shown, or those that report something.
@@ -34,25 +35,19 @@ fn edge(decoder: Decoder, all: bool, i: usize, rising: bool, duration: u32) -> D
     let total = decoder.event_total(rising, duration);
     let report = total.report;
     if all || !is_nothing(report) {
-        print_line(i, rising, duration, report);
+        print_line(i, rising, duration, of_report(report));
     }
     total.decoder
 }
 
-// The decoder after durations in alternating edges; `first` is 0 where the first one rises, and 1 where it falls.
-fn feed(before: Decoder, all: bool, first: usize, durations: &[u32]) -> Decoder {
-    let mut decoder = before;
+// A fresh decoder after durations in alternating edges; `first` is 0 where the first one rises, and 1 where it falls.
+pub fn feed(protocol: u32, rate: u32, all: bool, first: usize, durations: &[u32]) -> Decoder {
+    let made = Decoder::new(protocol, rate);
+    let mut decoder = made.decoder;
     let mut i: usize = 0;
     while i < durations.len() {
         decoder = edge(decoder, all, i, i % 2 == first, durations[i]);
         i += 1;
     }
     decoder
-}
-
-// The same for a fresh decoder.
-pub fn feed_fresh(protocol: u32, rate: u32, all: bool, first: usize, durations: &[u32]) -> Decoder {
-    let made = Decoder::new(protocol, rate);
-    let fresh = made.decoder;
-    feed(fresh, all, first, durations)
 }

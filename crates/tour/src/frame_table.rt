@@ -1,18 +1,20 @@
 // The frame of a command, a line for each duration, and what a fresh decoder of its protocol reports there.
 use crate::edges;
 use crate::out::print;
-use crate::out::print_number;
+use crate::out::print_newline;
+use crate::out::print_right;
 use crate::out::print_said;
 use answers::of_encoded;
 use frames::written;
 use receiver::encoder::encode;
 
 fn print_frame(protocol: u32, rate: u32, places: &[u32], count: usize) {
-    print_number(count as u64);
-    print(b" durations, in ticks\n");
+    print(b"Its durations, in ticks:");
+    print_right(0, count as u64);
+    print_newline();
     edges::print_head();
     if count <= places.len() {
-        edges::feed_fresh(protocol, rate, true, 0, &places[..count]);
+        edges::feed(protocol, rate, true, 0, &places[..count]);
     }
 }
 

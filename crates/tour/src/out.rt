@@ -1,8 +1,6 @@
 // Text and numbers, printed in columns. What is printed often is a function: a call is proved faster than a text.
 use answers::Said;
-use answers::of_report;
 use libc::STDOUT_FILENO;
-use reports::Report;
 
 pub fn print(s: &[u8]) {
     io::write_all(STDOUT_FILENO, s);
@@ -24,10 +22,6 @@ pub fn print_gap() {
     print(b"  ");
 }
 
-pub fn print_number(x: u64) {
-    io::print_decimal(STDOUT_FILENO, x);
-}
-
 // Behind the blanks that fill a column of at most 16; behind one where the text fills it.
 fn print_at_right(column: usize, s: &[u8], end: usize) {
     if end < column {
@@ -38,6 +32,7 @@ fn print_at_right(column: usize, s: &[u8], end: usize) {
     print_until(s, end);
 }
 
+// In running text the column is 0.
 pub fn print_right(column: usize, x: u64) {
     let mut room = [0u8; 20];
     let end = text::put_number(&mut room, 0, x);
@@ -54,8 +49,4 @@ pub fn print_said(said: Said) {
     let mut room = [0u8; 100];
     let end = text::put_said(&mut room, 0, said);
     print_until(&room, end);
-}
-
-pub fn print_report(report: Report) {
-    print_said(of_report(report));
 }

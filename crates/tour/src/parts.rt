@@ -2,9 +2,10 @@
 use crate::edges;
 use crate::frame_table;
 use crate::out::print;
-use crate::out::print_report;
+use crate::out::print_said;
 use crate::send_table::print_head;
 use crate::send_table::print_line;
+use answers::of_report;
 use nec::decoder::NecDecoder;
 use nec::decoder::NecMemory;
 use nec::decoder::NecState;
@@ -73,7 +74,7 @@ fn feed_broken() {
         9000,
         2250,
     ];
-    edges::feed_fresh(1, 1000000, false, 1, &durations);
+    edges::feed(1, 1000000, false, 1, &durations);
 }
 
 fn show_held_key() {
@@ -101,7 +102,7 @@ fn print_at_bit_32() {
     let decoder = NecDecoder { spans, memory };
     let total = decoder.event_total(true, 1120);
     let report = total.report;
-    print_report(report);
+    print_said(of_report(report));
 }
 
 // An RC5 frame's answer, or the refusal of its number, with 25 places of room.

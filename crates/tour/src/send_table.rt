@@ -4,9 +4,10 @@ use crate::frame_table;
 use crate::out::print;
 use crate::out::print_gap;
 use crate::out::print_newline;
-use crate::out::print_report;
 use crate::out::print_right;
+use crate::out::print_said;
 use answers::is_nothing;
+use answers::of_report;
 use promises::send::Sent;
 use promises::send::send_wrong;
 use receiver::decoder::Decoder;
@@ -15,7 +16,7 @@ use reports::Report;
 // A decoder that heard noise, of which it reports nothing.
 fn after_noise(protocol: u32) -> Decoder {
     let noise = [3000u32, 2664, 889, 0];
-    edges::feed_fresh(protocol, 1000000, false, 0, &noise)
+    edges::feed(protocol, 1000000, false, 0, &noise)
 }
 
 fn print_words(
@@ -43,7 +44,7 @@ fn print_first(first: Report) {
     if is_nothing(first) {
         print(b"nothing   ");
     } else {
-        print_report(first);
+        print_said(of_report(first));
     }
 }
 
@@ -54,7 +55,7 @@ fn print_sent(sent: Sent) {
     print_right(8, sent.others as u64);
     print_right(11, sent.edge as u64);
     print_gap();
-    print_report(report);
+    print_said(of_report(report));
 }
 
 pub fn print_line(

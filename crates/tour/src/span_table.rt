@@ -1,7 +1,6 @@
 // The spans of all five protocols at a rate, and the place of a duration.
 use crate::out::print;
 use crate::out::print_newline;
-use crate::out::print_number;
 use crate::out::print_right;
 use crate::out::print_said;
 use crate::out::print_span;
@@ -36,8 +35,8 @@ fn print_row(rate: u32, place: usize, duration: u64) {
 }
 
 fn print_spans(rate: u32) {
-    print(b"Spans at ");
-    print_number(rate as u64);
+    print(b"Spans at");
+    print_right(0, rate as u64);
     print(
         b" Hz, in ticks, both ends included\nplace             NEC             RC5             RC6             SBP           Denon",
     );
@@ -51,8 +50,8 @@ fn print_spans(rate: u32) {
 }
 
 fn print_places(rate: u32, duration: u64) {
-    print(b"\n\nPlace of duration ");
-    print_number(duration);
+    print(b"\n\nPlace of duration");
+    print_right(0, duration);
     print(b"\nplace");
     print_row(rate, 8, duration);
 }

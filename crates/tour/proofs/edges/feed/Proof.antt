@@ -6,10 +6,10 @@ use Rattle.tour.proofs.edges.feed.Statement.{statement}
 use Rattle.tour.proofs.edges.feed.Tie as tie
 
 abbrev Inv-loop : tie.InvT-loop
-Inv-loop all first durations decoder₀ i₀ decoder i = Unit {0}
+Inv-loop protocol rate all first durations decoder₀ i₀ decoder i = Unit {0}
 
 abbrev μ-loop : tie.MeasureT-loop
-μ-loop all first durations decoder₀ i₀ decoder i = length durations - i
+μ-loop protocol rate all first durations decoder₀ i₀ decoder i = length durations - i
 
 pub feed-spec : {M : Type 1} → statement M
 feed-spec =
@@ -17,6 +17,7 @@ feed-spec =
     (tie.spec
     Inv-loop
     μ-loop
+    (λ c κs. search needs)
     (λ c. search needs)
     (λ c. search needs)
     (λ c. search needs)
