@@ -5,7 +5,7 @@ use std::convert::TryFrom;
 use std::ffi::OsString;
 use std::io::{self, Write};
 
-use crate::answers::{expected_place, expected_spans, show_place, show_span};
+use crate::answers::{expected_place, expected_spans, show_place};
 use crate::calls::{self, Ask, Edge, Encode};
 use crate::document::{self, Protocol, PLACES, PROTOCOLS};
 use crate::encode;
@@ -137,11 +137,14 @@ fn span_table(out: &mut impl Write, rate: u32, duration: Option<u64>) -> io::Res
     row(
         out,
         "place",
-        PROTOCOLS.map(|protocol| protocol.name().to_string()),
+        PROTOCOLS.map(|protocol| format!("{:>8}{:>8}", protocol.name(), "to")),
     )?;
     let spans = PROTOCOLS.map(|protocol| expected_spans(protocol, rate).0);
     for place in 0..PLACES {
-        let shown = PROTOCOLS.map(|protocol| show_span(&spans[protocol.index()], place));
+        let shown = PROTOCOLS.map(|protocol| {
+            let span = &spans[protocol.index()][place];
+            format!("{:>8}{:>8}", span.low, span.high)
+        });
         row(out, &place.to_string(), shown)?;
     }
     if let Some(duration) = duration {
@@ -167,7 +170,7 @@ fn frame_table(out: &mut impl Write, call: &Encode) -> io::Result<()> {
         Err(refusal) => return writeln!(out, "refused {}", refusal),
     };
     let (frame, _) = encode::expected_frame(kind, call.rate, call.command);
-    writeln!(out, "{} durations, in ticks", frame.durations().len())?;
+    writeln!(out, "Its durations, in ticks: {}", frame.durations().len())?;
     let edges = frame.durations().iter().enumerate().map(|(place, &duration)| Edge {
         rising: place % 2 == 0,
         duration: u32::try_from(duration).expect("a duration fits 32 bits"),
