@@ -5,7 +5,9 @@ use prog.Model.{Model}
 use contract.Running.{GhostRules, Running}
 use Rattle.determined.specs.Determined.{Fixed, both, one, _&_, alike-left}
 use Rattle.text.proofs.put as put
+use Rattle.text.proofs.put_letters as put-letters
 use Rattle.text.proofs.put_number as put-number
+use Rattle.text.proofs.put_right as put-right
 use Rattle.text.proofs.put_durations as put-durations
 use Rattle.text.proofs.put_said as put-said
 use Rattle.text.proofs.put_part as put-part
@@ -16,8 +18,14 @@ module _ {M : Type 1} (𝓤 : URA M) (H : Heap 𝓤) (𝓜 : Model 𝓤 H) (𝓖
   put-fixed : Fixed 𝓤 H (𝓖 .A) put.ended (put.clauses 𝓤 H (𝓖 .A) (𝓜 .mem) (𝓡 .run)) (𝓡 .run put.Symbol.routine)
   put-fixed = (put.Met.met 𝓤 H 𝓜 𝓖 𝓡, λ κs a g h r s v w. both (one & one) (one & one) alike-left)
 
+  put-letters-fixed : Fixed 𝓤 H (𝓖 .A) put-letters.ended (put-letters.clauses 𝓤 H (𝓖 .A) (𝓜 .mem) (𝓡 .run)) (𝓡 .run put-letters.Symbol.routine)
+  put-letters-fixed = (put-letters.Met.met 𝓤 H 𝓜 𝓖 𝓡, λ κs a g h r s v w. both (one & one) (one & one) alike-left)
+
   put-number-fixed : Fixed 𝓤 H (𝓖 .A) put-number.ended (put-number.clauses 𝓤 H (𝓖 .A) (𝓜 .mem) (𝓡 .run)) (𝓡 .run put-number.Symbol.routine)
   put-number-fixed = (put-number.Met.met 𝓤 H 𝓜 𝓖 𝓡, λ κs a g h r s v w. both (one & one) (one & one) alike-left)
+
+  put-right-fixed : Fixed 𝓤 H (𝓖 .A) put-right.ended (put-right.clauses 𝓤 H (𝓖 .A) (𝓜 .mem) (𝓡 .run)) (𝓡 .run put-right.Symbol.routine)
+  put-right-fixed = (put-right.Met.met 𝓤 H 𝓜 𝓖 𝓡, λ κs a g h r s v w. both (one & one) (one & one) alike-left)
 
   put-durations-fixed : Fixed 𝓤 H (𝓖 .A) put-durations.ended (put-durations.clauses 𝓤 H (𝓖 .A) (𝓜 .mem) (𝓡 .run)) (𝓡 .run put-durations.Symbol.routine)
   put-durations-fixed = (put-durations.Met.met 𝓤 H 𝓜 𝓖 𝓡, λ κs a g h r s v w. both (one & one) (one & one) alike-left)

@@ -11,7 +11,7 @@ use lib.ListN.{length, getD, drop, drop-of-length-le}
 use lib.Seq.{drop-cons}
 use borrow.Author.Tests.{ltb-true, ltb-false}
 use Rattle.spans.specs.declared.Spans.{Spans}
-use Rattle.text.specs.Text.{putsOf, firstLetter, otherLetters, letters, digitAt, digitsOf, nextText, numbersText, spanText, gapAt, spansFrom}
+use Rattle.text.specs.Text.{putsOf, firstLetter, otherLetters, letters, digitAt, leadAt, digitsOf, nextText, numbersText, spanText, gapAt, spansFrom}
 use Rattle.text.proofs.Puts.{PutChar, Put, behind-char, behind-text, told}
 
 letters-next : (n word : ℕ) → 0 < n → firstLetter word ∷ letters (n - 1) (otherLetters word) ≡ letters n word
@@ -26,17 +26,17 @@ unfolding letters
 no-letters zero word h = refl
 no-letters (suc n) word h = absurd (not-suc-le-zero h)
 
-digits-next : (n power x : ℕ) → 0 < n → digitAt x power ∷ digitsOf (n - 1) (power / 10) x ≡ digitsOf n power x
+digits-next : (n column power x : ℕ) → 0 < n → digitAt x power (leadAt n column) ∷ digitsOf (n - 1) column (power / 10) x ≡ digitsOf n column power x
 unfolding digitsOf
-digits-next zero power x h = absurd (not-suc-le-zero h)
-digits-next (suc n) power x h =
+digits-next zero column power x h = absurd (not-suc-le-zero h)
+digits-next (suc n) column power x h =
     let e : suc n - 1 ≡ n = omega arith in
-    ap (λ (m : ℕ). digitAt x power ∷ digitsOf m (power / 10) x) e
+    ap (λ (m : ℕ). digitAt x power (leadAt (suc n) column) ∷ digitsOf m column (power / 10) x) e
 
-no-digits : (n power x : ℕ) → n ≤ 0 → [] ≡ digitsOf n power x
+no-digits : (n column power x : ℕ) → n ≤ 0 → [] ≡ digitsOf n column power x
 unfolding digitsOf
-no-digits zero power x h = refl
-no-digits (suc n) power x h = absurd (not-suc-le-zero h)
+no-digits zero column power x h = refl
+no-digits (suc n) column power x h = absurd (not-suc-le-zero h)
 
 module _ (count i : ℕ) (ns : List ℕ) where
   said : i < length ns → i < count → nextText true (getD ns i 0) ++ numbersText (count - (i + 1)) (drop (i + 1) ns) ≡ numbersText (count - i) (drop i ns)
@@ -85,9 +85,10 @@ module _ (text : List ℕ) (next : ℕ) (left : List ℕ) (after : ℕ) (whole :
       behind-char text next left after (letters (n - 1) rest) b p ∙ (λ i. putsOf text next (e i ∷ letters (n - 1) (f i))) ∙ ap (λ (bs : List ℕ). putsOf text next bs) (letters-next n word h)
       ∙ inv
 
-  pub digit-put : (n power x b : ℕ) → 0 < n → putsOf text next (digitsOf n power x) ≡ whole → PutChar text next b left after → b ≡ digitAt x power → putsOf left after (digitsOf (n - 1) (power / 10) x) ≡ whole
-  digit-put n power x b h inv p e =
-      behind-char text next left after (digitsOf (n - 1) (power / 10) x) b p ∙ (λ i. putsOf text next (e i ∷ digitsOf (n - 1) (power / 10) x)) ∙ ap (λ (bs : List ℕ). putsOf text next bs) (digits-next n power x h)
+  pub digit-put : (n column power x lead b : ℕ) → 0 < n → putsOf text next (digitsOf n column power x) ≡ whole → PutChar text next b left after → b ≡ digitAt x power lead → lead ≡ leadAt n column → putsOf left after (digitsOf (n - 1) column (power / 10) x) ≡ whole
+  digit-put n column power x lead b h inv p e f =
+      let cs = digitsOf (n - 1) column (power / 10) x in
+      behind-char text next left after cs b p ∙ (λ i. putsOf text next (e i ∷ cs)) ∙ (λ i. putsOf text next (digitAt x power (f i) ∷ cs)) ∙ ap (λ (bs : List ℕ). putsOf text next bs) (digits-next n column power x h)
       ∙ inv
 
   pub number-put : (count i : ℕ) (ns : List ℕ) (is-said : Bool) (x : ℕ) → i < length ns → putsOf text next (numbersText (count - i) (drop i ns)) ≡ whole → Put text next (nextText is-said x) left after → is-said ≡ ltb i count → x ≡ getD ns i 0 → putsOf left after (numbersText (count - (i + 1)) (drop (i + 1) ns)) ≡ whole
@@ -117,8 +118,8 @@ module _ (text : List ℕ) (at : ℕ) (bs left : List ℕ) (next : ℕ) where
   pub letters-put : (n word : ℕ) → n ≤ 0 → putsOf left next (letters n word) ≡ putsOf text at bs → Put text at bs left next
   letters-put n word h inv = all (letters n word) (no-letters n word h) inv
 
-  pub digits-put : (n power x : ℕ) → n ≤ 0 → putsOf left next (digitsOf n power x) ≡ putsOf text at bs → Put text at bs left next
-  digits-put n power x h inv = all (digitsOf n power x) (no-digits n power x h) inv
+  pub digits-put : (n column power x : ℕ) → n ≤ 0 → putsOf left next (digitsOf n column power x) ≡ putsOf text at bs → Put text at bs left next
+  digits-put n column power x h inv = all (digitsOf n column power x) (no-digits n column power x h) inv
 
   pub numbers-put : (n i : ℕ) (ns : List ℕ) → length ns ≤ i → putsOf left next (numbersText n (drop i ns)) ≡ putsOf text at bs → Put text at bs left next
   numbers-put n i ns h inv = all (numbersText n (drop i ns)) (no-numbers n i ns h) inv

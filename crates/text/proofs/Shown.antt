@@ -1,8 +1,8 @@
--- That `decimal` means what it says: the characters that show of some numbers. Assumes nothing.
+-- That `decimal` and `rightText` mean what they say: the characters that show of some numbers. Assumes nothing.
 use Prim.Native.Nat.{ℕ, zero, suc, _-_, _^_}
 use mathlib.Core.Path.{_≡_, refl}
 use mathlib.Core.List.{List, [], _∷_}
-use Rattle.text.specs.Text.{putOf, putsOf, chars, digitsOf, decimal}
+use Rattle.text.specs.Text.{putOf, putsOf, chars, digitsOf, decimal, rightText}
 
 -- all but the zeros
 abbrev pub shown : List ℕ → List ℕ
@@ -34,3 +34,12 @@ pub decimal-last
     ≡ chars ("1" ∷ "8" ∷ "4" ∷ "4" ∷ "6" ∷ "7" ∷ "4" ∷ "4" ∷ "0" ∷ "7" ∷ "3" ∷ "7" ∷ "0" ∷ "9" ∷ "5" ∷ "5" ∷ "1" ∷ "6" ∷ "1" ∷ "5" ∷ [])
 unfolding decimal digitsOf
 decimal-last = refl
+
+-- at the right of a column, and where it is wider than its column
+pub right-8 : shown (rightText 8 14446) ≡ chars (" " ∷ " " ∷ " " ∷ "1" ∷ "4" ∷ "4" ∷ "4" ∷ "6" ∷ [])
+unfolding rightText digitsOf
+right-8 = refl
+
+pub right-3 : shown (rightText 3 14446) ≡ chars (" " ∷ "1" ∷ "4" ∷ "4" ∷ "4" ∷ "6" ∷ [])
+unfolding rightText digitsOf
+right-3 = refl
