@@ -22,27 +22,11 @@ pub fn print_gap() {
     print(b"  ");
 }
 
-// Behind the blanks that fill a column of at most 16; behind one where the text fills it.
-fn print_at_right(column: usize, s: &[u8], end: usize) {
-    if end < column {
-        print_until(b"                ", column - end);
-    } else {
-        print_until(b" ", 1);
-    }
-    print_until(s, end);
-}
-
-// In running text the column is 0.
+// At the right of a column; behind one blank where the column is 0.
 pub fn print_right(column: usize, x: u64) {
-    let mut room = [0u8; 20];
-    let end = text::put_number(&mut room, 0, x);
-    print_at_right(column, &room, end);
-}
-
-pub fn print_span(low: u32, high: u32) {
-    let mut room = [0u8; 42];
-    let end = text::put_span(&mut room, 0, low, high);
-    print_at_right(16, &room, end);
+    let mut room = [0u8; 21];
+    let end = text::put_right(&mut room, 0, column, x);
+    print_until(&room, end);
 }
 
 pub fn print_said(said: Said) {

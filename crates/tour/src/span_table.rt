@@ -3,7 +3,6 @@ use crate::out::print;
 use crate::out::print_newline;
 use crate::out::print_right;
 use crate::out::print_said;
-use crate::out::print_span;
 use answers::of_answer;
 use spans::Answer;
 use spans::Found;
@@ -20,7 +19,8 @@ fn print_cell(protocol: u32, rate: u32, place: usize, duration: u64) {
     let built = spans::spans_of(protocol, rate);
     let s = built.spans;
     if place < 8 {
-        print_span(s.low[place], s.high[place]);
+        print_right(8, s.low[place] as u64);
+        print_right(8, s.high[place] as u64);
     } else {
         print_found(spans::lookup(s, duration));
     }
@@ -38,7 +38,7 @@ fn print_spans(rate: u32) {
     print(b"Spans at");
     print_right(0, rate as u64);
     print(
-        b" Hz, in ticks, both ends included\nplace             NEC             RC5             RC6             SBP           Denon",
+        b" Hz, in ticks, both ends included\nplace     NEC      to     RC5      to     RC6      to     SBP      to   Denon      to",
     );
     let mut place: usize = 0;
     while place < 8 {
