@@ -34,7 +34,7 @@ fn print_line(i: usize, rising: bool, duration: u32, said: Said) {
 fn edge(decoder: Decoder, all: bool, i: usize, rising: bool, duration: u32) -> Decoder {
     let total = decoder.event_total(rising, duration);
     let report = total.report;
-    if all || !is_nothing(report) {
+    if all | !is_nothing(report) {
         print_line(i, rising, duration, of_report(report));
     }
     total.decoder

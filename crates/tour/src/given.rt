@@ -20,7 +20,7 @@ pub fn number(i: usize, count: usize, left_out: u64, most: u64) -> u64 {
     let mut s = io::buffer();
     let n = os::arg(i, &mut s);
     let value = words::number_of(&s[..n]);
-    if 0 < n && value <= most {
+    if (0 < n) & (value <= most) {
         return value;
     }
     NONE

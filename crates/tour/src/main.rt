@@ -1,4 +1,5 @@
 // What `./run` shows. `./run help` lists the words that it takes.
+// Here and in the tables tests are joined by `&` and `|`: each way through the code is proved, and `&&` makes two.
 mod edges;
 mod frame_table;
 mod given;
@@ -37,7 +38,7 @@ fn usage() {
 fn run_spans(count: usize) {
     let rate = number(2, count, 1000000, given::LAST);
     let duration = number(3, count, 0, given::LAST);
-    if count <= 4 && rate | duration <= given::LAST {
+    if (count <= 4) & (rate | duration <= given::LAST) {
         span_table::show(low_32(rate), duration, count == 4);
     } else {
         usage();
@@ -52,7 +53,7 @@ fn run_frame(count: usize) {
     let start = number(6, count, 3, 255);
     let toggle = number(7, count, 0, 1);
     let all = protocol | rate | addr | cmd | start | toggle;
-    if (count == 6 || count == 8) && all <= given::LAST {
+    if ((count == 6) | (count == 8)) & (all <= given::LAST) {
         frame_table::show_whole(
             low_32(protocol),
             low_32(rate),
@@ -76,7 +77,7 @@ fn run_send(count: usize) {
     let silence = number(7, count, least_silence(bound) as u64, given::LAST);
     let wrong = number(8, count, most_wrong(bound) as u64, given::LAST);
     let all = protocol | addr | cmd | start | toggle | silence | wrong;
-    if (count == 5 || count == 7 || count == 9) && all <= given::LAST {
+    if ((count == 5) | (count == 7) | (count == 9)) & (all <= given::LAST) {
         send_table::show(
             low_32(protocol),
             low_8(addr),

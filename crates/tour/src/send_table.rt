@@ -80,7 +80,7 @@ pub fn print_head() {
 
 // A number that is refused has no line, and what the encoder says of it is shown.
 pub fn show(protocol: u32, addr: u8, cmd: u8, start: u8, toggle: bool, silence: u32, wrong: u32) {
-    if 1 <= protocol && protocol <= 3 {
+    if (1 <= protocol) & (protocol <= 3) {
         print_head();
         print_line(protocol, addr, cmd, start, toggle, silence, wrong);
     } else {
