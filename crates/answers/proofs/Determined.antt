@@ -6,6 +6,7 @@ use contract.Running.{GhostRules, Running}
 use Rattle.determined.specs.Determined.{Fixed, both, one, alike}
 use Rattle.answers.proofs.text as text
 use Rattle.answers.proofs.with as with
+use Rattle.answers.proofs.flag as flag
 use Rattle.answers.proofs.of_status as of-status
 use Rattle.answers.proofs.of_report as of-report
 use Rattle.answers.proofs.of_answer as of-answer
@@ -23,6 +24,9 @@ module _ {M : Type 1} (𝓤 : URA M) (H : Heap 𝓤) (𝓜 : Model 𝓤 H) (𝓖
 
   with-fixed : Fixed 𝓤 H (𝓖 .A) with.ended (with.clauses 𝓤 H (𝓖 .A) (𝓜 .mem) (𝓡 .run)) (𝓡 .run with.Symbol.routine)
   with-fixed = (with.Met.met 𝓤 H 𝓜 𝓖 𝓡, λ κs a g h r s v w. both one one alike)
+
+  flag-fixed : Fixed 𝓤 H (𝓖 .A) flag.ended (flag.clauses 𝓤 H (𝓖 .A) (𝓜 .mem) (𝓡 .run)) (𝓡 .run flag.Symbol.routine)
+  flag-fixed = (flag.Met.met 𝓤 H 𝓜 𝓖 𝓡, λ κs a g h r s v w. both one one alike)
 
   of-status-fixed : Fixed 𝓤 H (𝓖 .A) of-status.ended (of-status.clauses 𝓤 H (𝓖 .A) (𝓜 .mem) (𝓡 .run)) (𝓡 .run of-status.Symbol.routine)
   of-status-fixed = (of-status.Met.met 𝓤 H 𝓜 𝓖 𝓡, λ κs a g h r s v w. both one one alike)

@@ -77,7 +77,8 @@ pub fn of_status(status: Status) -> Said
     }
 }
 
-fn flag(b: bool) -> u64
+// A flag as 1 or 0.
+pub fn flag(b: bool) -> u64
     ensures { λ r. ⌜ r ≡ bitOf b ⌝ }
 {
     if b { 1 } else { 0 }

@@ -1,5 +1,5 @@
 -- Document 01, "Frames": the RC5 frame.
-use Prim.Native.Nat.{ℕ, zero, suc, _+_, _*_}
+use Prim.Native.Nat.{ℕ, zero, suc, _*_}
 use mathlib.Core.List.{List, [], _∷_, _++_}
 use mathlib.Core.Bool.{Bool, true, cond, Bool·beq}
 use Rattle.commands.specs.Rc5.{packOf}

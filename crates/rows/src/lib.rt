@@ -1,5 +1,6 @@
 // The lines of the tour's tables, put into a lent slice: each takes the place where its text starts, and answers the next one.
 use answers::Said;
+use answers::flag;
 use answers::is_nothing;
 use answers::of_report;
 use reports::Report;
@@ -8,7 +9,6 @@ use text::put_letters;
 use text::put_right;
 use text::put_said;
 ghost use mathlib.Core.Path.{_≡_};
-ghost use Rattle.commands.specs.Rc5.{bitOf};
 ghost use Rattle.answers.specs.Answers.{reportSaid};
 ghost use Rattle.text.specs.Text.{putsOf, saidText};
 ghost use Rattle.rows.specs.Rows.{gapText, levelText, timeText, edgeText, addressText, startText, boundsText, sendText, firstText, countsText, sentText};
@@ -71,12 +71,6 @@ fn put_address(text: &mut [u8], at: usize, protocol: u32, addr: u8, cmd: u8) -> 
     let next = put_right(text, next, 8, protocol as u64);
     let next = put_right(text, next, 8, addr as u64);
     put_right(text, next, 8, cmd as u64)
-}
-
-fn flag(b: bool) -> u64
-    ensures { λ r. ⌜ r ≡ bitOf b ⌝ }
-{
-    if b { 1 } else { 0 }
 }
 
 // Its start, and its toggle as 1 or 0.

@@ -1,7 +1,7 @@
 -- What the calls of README's "The call language" on a slot do and answer.
 use Prim.Native.Nat.{ℕ, zero, suc}
 use mathlib.Core.Bool.{Bool, true, false, cond}
-use mathlib.Core.List.{List, [], _∷_}
+use mathlib.Core.List.{[], _∷_}
 use Rattle.reports.specs.declared.Report.{Report}
 use Rattle.reports.specs.declared.Report.the-variants as report
 use Rattle.receiver.specs.Decoder.{eventOf, eventTotal, commandIn, resetIn}

@@ -11,7 +11,6 @@ use Rattle.text.proofs.put_right as put-right
 use Rattle.text.proofs.put_durations as put-durations
 use Rattle.text.proofs.put_said as put-said
 use Rattle.text.proofs.put_part as put-part
-use Rattle.text.proofs.put_span as put-span
 use Rattle.text.proofs.put_spans as put-spans
 
 module _ {M : Type 1} (𝓤 : URA M) (H : Heap 𝓤) (𝓜 : Model 𝓤 H) (𝓖 : GhostRules 𝓤 H) (𝓡 : Running 𝓤 H 𝓜) where
@@ -35,9 +34,6 @@ module _ {M : Type 1} (𝓤 : URA M) (H : Heap 𝓤) (𝓜 : Model 𝓤 H) (𝓖
 
   put-part-fixed : Fixed 𝓤 H (𝓖 .A) put-part.ended (put-part.clauses 𝓤 H (𝓖 .A) (𝓜 .mem) (𝓡 .run)) (𝓡 .run put-part.Symbol.routine)
   put-part-fixed = (put-part.Met.met 𝓤 H 𝓜 𝓖 𝓡, λ κs a g h r s v w. both (one & one) (one & one) alike-left)
-
-  put-span-fixed : Fixed 𝓤 H (𝓖 .A) put-span.ended (put-span.clauses 𝓤 H (𝓖 .A) (𝓜 .mem) (𝓡 .run)) (𝓡 .run put-span.Symbol.routine)
-  put-span-fixed = (put-span.Met.met 𝓤 H 𝓜 𝓖 𝓡, λ κs a g h r s v w. both (one & one) (one & one) alike-left)
 
   put-spans-fixed : Fixed 𝓤 H (𝓖 .A) put-spans.ended (put-spans.clauses 𝓤 H (𝓖 .A) (𝓜 .mem) (𝓡 .run)) (𝓡 .run put-spans.Symbol.routine)
   put-spans-fixed = (put-spans.Met.met 𝓤 H 𝓜 𝓖 𝓡, λ κs a g h r s v w. both (one & one) (one & one) alike-left)

@@ -170,7 +170,7 @@ pub fn put_part(text: &mut [u8], at: usize, said: Said) -> usize
 }
 
 // The two ends of a span, and two dots between them.
-pub fn put_span(text: &mut [u8], at: usize, low: u32, high: u32) -> usize
+fn put_span(text: &mut [u8], at: usize, low: u32, high: u32) -> usize
     ensures next { λ r. ⌜ r ≡ putsOf (now (text .entry)) at (spanText low high) .1 ⌝ }
     ensures left { λ _. ⌜ now (text .exit) ≡ putsOf (now (text .entry)) at (spanText low high) .0 ⌝ }
 {

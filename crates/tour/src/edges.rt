@@ -1,33 +1,20 @@
 // Edges in order to a decoder, and a line for each that is to be shown.
 use crate::out::print;
-use crate::out::print_gap;
-use crate::out::print_newline;
-use crate::out::print_right;
-use crate::out::print_said;
+use crate::out::print_until;
 use answers::Said;
 use answers::is_nothing;
 use answers::of_report;
 use receiver::decoder::Decoder;
+use rows::put_edge;
 
 pub fn print_head() {
     print(b" edge level     after  reports");
 }
 
-fn print_level(rising: bool) {
-    if rising {
-        print(b"  rise");
-    } else {
-        print(b"  fall");
-    }
-}
-
 fn print_line(i: usize, rising: bool, duration: u32, said: Said) {
-    print_newline();
-    print_right(5, (i % 1000) as u64 + 1);
-    print_level(rising);
-    print_right(10, duration as u64);
-    print_gap();
-    print_said(said);
+    let mut room = [0u8; 200];
+    let end = put_edge(&mut room, 0, (i % 1000) as u64 + 1, rising, duration, said);
+    print_until(&room, end);
 }
 
 // All edges are shown, or those that report something.

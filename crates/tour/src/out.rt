@@ -7,7 +7,7 @@ pub fn print(s: &[u8]) {
 }
 
 // What a text holds before a place.
-fn print_until(s: &[u8], end: usize) {
+pub fn print_until(s: &[u8], end: usize) {
     if end <= s.len() {
         print(&s[..end]);
     }
@@ -15,11 +15,6 @@ fn print_until(s: &[u8], end: usize) {
 
 pub fn print_newline() {
     print(b"\n");
-}
-
-// What stands before a column of text.
-pub fn print_gap() {
-    print(b"  ");
 }
 
 // At the right of a column; behind one blank where the column is 0.

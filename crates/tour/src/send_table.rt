@@ -2,16 +2,12 @@
 use crate::edges;
 use crate::frame_table;
 use crate::out::print;
-use crate::out::print_gap;
-use crate::out::print_newline;
-use crate::out::print_right;
-use crate::out::print_said;
-use answers::is_nothing;
-use answers::of_report;
+use crate::out::print_until;
 use promises::send::Sent;
 use promises::send::send_wrong;
 use receiver::decoder::Decoder;
-use reports::Report;
+use rows::put_sending;
+use rows::put_sent;
 
 // A decoder that heard noise, of which it reports nothing.
 fn after_noise(protocol: u32) -> Decoder {
@@ -19,7 +15,7 @@ fn after_noise(protocol: u32) -> Decoder {
     edges::feed(protocol, 1000000, false, 0, &noise)
 }
 
-fn print_words(
+fn print_sending(
     protocol: u32,
     addr: u8,
     cmd: u8,
@@ -28,34 +24,27 @@ fn print_words(
     silence: u32,
     wrong: u32,
 ) {
-    print_newline();
-    print_right(8, protocol as u64);
-    print_right(8, addr as u64);
-    print_right(8, cmd as u64);
-    print_right(6, start as u64);
-    print_right(7, toggle as u64);
-    print_right(8, silence as u64);
-    print_right(6, wrong as u64);
-    print_gap();
-}
-
-// The first edge's report, in a column of ten.
-fn print_first(first: Report) {
-    if is_nothing(first) {
-        print(b"nothing   ");
-    } else {
-        print_said(of_report(first));
-    }
+    let mut room = [0u8; 200];
+    let end = put_sending(
+        &mut room,
+        0,
+        protocol,
+        addr,
+        cmd,
+        start,
+        toggle,
+        silence,
+        wrong,
+    );
+    print_until(&room, end);
 }
 
 fn print_sent(sent: Sent) {
     let first = sent.first;
     let report = sent.report;
-    print_first(first);
-    print_right(8, sent.others as u64);
-    print_right(11, sent.edge as u64);
-    print_gap();
-    print_said(of_report(report));
+    let mut room = [0u8; 200];
+    let end = put_sent(&mut room, 0, first, sent.others, sent.edge, report);
+    print_until(&room, end);
 }
 
 pub fn print_line(
@@ -67,7 +56,7 @@ pub fn print_line(
     silence: u32,
     wrong: u32,
 ) {
-    print_words(protocol, addr, cmd, start, toggle, silence, wrong);
+    print_sending(protocol, addr, cmd, start, toggle, silence, wrong);
     let decoder = after_noise(protocol);
     print_sent(send_wrong(decoder, protocol, addr, cmd, start, toggle, silence, wrong));
 }
