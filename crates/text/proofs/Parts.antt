@@ -53,7 +53,9 @@ module _ (count i : ℕ) (ns : List ℕ) where
       let f : 0 ≡ count - i = omega arith in
       ap (λ (n : ℕ). numbersText n (drop (i + 1) ns)) e ∙ ap (λ (n : ℕ). numbersText n (drop i ns)) f
 
-  numbers-next : i < length ns → (is-said : Bool) → is-said ≡ ltb i count → nextText is-said (getD ns i 0) ++ numbersText (count - (i + 1)) (drop (i + 1) ns) ≡ numbersText (count - i) (drop i ns)
+  numbers-next
+      : i < length ns → (is-said : Bool) → is-said ≡ ltb i count
+      → nextText is-said (getD ns i 0) ++ numbersText (count - (i + 1)) (drop (i + 1) ns) ≡ numbersText (count - i) (drop i ns)
   numbers-next h true e = said h (ltb-true i count (sym e))
   numbers-next h false e = unsaid (ltb-false i count (sym e))
 
@@ -66,7 +68,9 @@ no-numbers : (n i : ℕ) (ns : List ℕ) → length ns ≤ i → [] ≡ numbersT
 no-numbers n i ns h =
     none-of n ∙ ap (λ (xs : List ℕ). numbersText n xs) (sym (drop-of-length-le ns {i = i} h))
 
-spans-next : (n place : ℕ) (spans : Spans) → 0 < n → (gapAt place ∷ spanText (getD (spans .low) place 0) (getD (spans .high) place 0)) ++ spansFrom (n - 1) (place + 1) spans ≡ spansFrom n place spans
+spans-next
+    : (n place : ℕ) (spans : Spans) → 0 < n
+    → (gapAt place ∷ spanText (getD (spans .low) place 0) (getD (spans .high) place 0)) ++ spansFrom (n - 1) (place + 1) spans ≡ spansFrom n place spans
 unfolding spansFrom
 spans-next zero place spans h = absurd (not-suc-le-zero h)
 spans-next (suc n) place spans h =
@@ -80,29 +84,44 @@ no-spans (suc n) place spans h = absurd (not-suc-le-zero h)
 
 -- what is left to put gives the whole
 module _ (text : List ℕ) (next : ℕ) (left : List ℕ) (after : ℕ) (whole : List ℕ × ℕ) where
-  pub letter-put : (n word b rest : ℕ) → 0 < n → putsOf text next (letters n word) ≡ whole → PutChar text next b left after → b ≡ firstLetter word → rest ≡ otherLetters word → putsOf left after (letters (n - 1) rest) ≡ whole
+  pub letter-put
+      : (n word b rest : ℕ) → 0 < n → putsOf text next (letters n word) ≡ whole → PutChar text next b left after → b ≡ firstLetter word
+      → rest ≡ otherLetters word → putsOf left after (letters (n - 1) rest) ≡ whole
   letter-put n word b rest h inv p e f =
-      behind-char text next left after (letters (n - 1) rest) b p ∙ (λ i. putsOf text next (e i ∷ letters (n - 1) (f i))) ∙ ap (λ (bs : List ℕ). putsOf text next bs) (letters-next n word h)
+      behind-char text next left after (letters (n - 1) rest) b p ∙ (λ i. putsOf text next (e i ∷ letters (n - 1) (f i)))
+      ∙ ap (λ (bs : List ℕ). putsOf text next bs) (letters-next n word h)
       ∙ inv
 
-  pub digit-put : (n column power x lead b : ℕ) → 0 < n → putsOf text next (digitsOf n column power x) ≡ whole → PutChar text next b left after → b ≡ digitAt x power lead → lead ≡ leadAt n column → putsOf left after (digitsOf (n - 1) column (power / 10) x) ≡ whole
+  pub digit-put
+      : (n column power x lead b : ℕ) → 0 < n → putsOf text next (digitsOf n column power x) ≡ whole → PutChar text next b left after
+      → b ≡ digitAt x power lead → lead ≡ leadAt n column → putsOf left after (digitsOf (n - 1) column (power / 10) x) ≡ whole
   digit-put n column power x lead b h inv p e f =
       let cs = digitsOf (n - 1) column (power / 10) x in
-      behind-char text next left after cs b p ∙ (λ i. putsOf text next (e i ∷ cs)) ∙ (λ i. putsOf text next (digitAt x power (f i) ∷ cs)) ∙ ap (λ (bs : List ℕ). putsOf text next bs) (digits-next n column power x h)
+      behind-char text next left after cs b p ∙ (λ i. putsOf text next (e i ∷ cs)) ∙ (λ i. putsOf text next (digitAt x power (f i) ∷ cs))
+      ∙ ap (λ (bs : List ℕ). putsOf text next bs) (digits-next n column power x h)
       ∙ inv
 
-  pub number-put : (count i : ℕ) (ns : List ℕ) (is-said : Bool) (x : ℕ) → i < length ns → putsOf text next (numbersText (count - i) (drop i ns)) ≡ whole → Put text next (nextText is-said x) left after → is-said ≡ ltb i count → x ≡ getD ns i 0 → putsOf left after (numbersText (count - (i + 1)) (drop (i + 1) ns)) ≡ whole
+  pub number-put
+      : (count i : ℕ) (ns : List ℕ) (is-said : Bool) (x : ℕ) → i < length ns → putsOf text next (numbersText (count - i) (drop i ns)) ≡ whole
+      → Put text next (nextText is-said x) left after → is-said ≡ ltb i count → x ≡ getD ns i 0
+      → putsOf left after (numbersText (count - (i + 1)) (drop (i + 1) ns)) ≡ whole
   number-put count i ns is-said x h inv p e f =
       let cs = numbersText (count - (i + 1)) (drop (i + 1) ns) in
-      behind-text text next left after cs (nextText is-said x) p ∙ (λ j. putsOf text next (nextText is-said (f j) ++ cs)) ∙ ap (λ (bs : List ℕ). putsOf text next bs) (numbers-next count i ns h is-said e)
+      behind-text text next left after cs (nextText is-said x) p ∙ (λ j. putsOf text next (nextText is-said (f j) ++ cs))
+      ∙ ap (λ (bs : List ℕ). putsOf text next bs) (numbers-next count i ns h is-said e)
       ∙ inv
 
   -- a blank or none, and the span behind it
-  pub span-put : (n place b : ℕ) (spans : Spans) (text₁ : List ℕ) (next₁ : ℕ) → 0 < n → putsOf text next (spansFrom n place spans) ≡ whole → PutChar text next b text₁ next₁ → b ≡ gapAt place → Put text₁ next₁ (spanText (getD (spans .low) place 0) (getD (spans .high) place 0)) left after → putsOf left after (spansFrom (n - 1) (place + 1) spans) ≡ whole
+  pub span-put
+      : (n place b : ℕ) (spans : Spans) (text₁ : List ℕ) (next₁ : ℕ) → 0 < n → putsOf text next (spansFrom n place spans) ≡ whole
+      → PutChar text next b text₁ next₁ → b ≡ gapAt place
+      → Put text₁ next₁ (spanText (getD (spans .low) place 0) (getD (spans .high) place 0)) left after
+      → putsOf left after (spansFrom (n - 1) (place + 1) spans) ≡ whole
   span-put n place b spans text₁ next₁ h inv p e q =
       let bs = spanText (getD (spans .low) place 0) (getD (spans .high) place 0) in
       let cs = spansFrom (n - 1) (place + 1) spans in
-      behind-text text₁ next₁ left after cs bs q ∙ behind-char text next text₁ next₁ (bs ++ cs) b p ∙ (λ i. putsOf text next (e i ∷ (bs ++ cs))) ∙ ap (λ (ds : List ℕ). putsOf text next ds) (spans-next n place spans h)
+      behind-text text₁ next₁ left after cs bs q ∙ behind-char text next text₁ next₁ (bs ++ cs) b p ∙ (λ i. putsOf text next (e i ∷ (bs ++ cs)))
+      ∙ ap (λ (ds : List ℕ). putsOf text next ds) (spans-next n place spans h)
       ∙ inv
 
 pub numbers-start : (text : List ℕ) (next count : ℕ) (ns : List ℕ) → putsOf text next (numbersText (count - 0) ns) ≡ putsOf text next (numbersText count ns)
