@@ -77,3 +77,16 @@ pub fed-end
     → fed first later (at + 1) decoder (alternating rising (rest frame wrongs at)) ≡ answerOf first later decoder
 unfolding wronged notedAll runReports runAfter alternating
 fed-end frame wrongs at past first rising decoder later = rw (drop-of-length-le frame {i = at} past)
+
+-- ---- the decoder alone, after durations in alternating edges
+
+module _ (durations : List ℕ) (at : ℕ) (rising : Bool) (decoder : Decoder) where
+  pub after-next
+      : at < length durations → (total : Total) → total ≡ eventTotal decoder rising (getD durations at 0)
+      → decoderAfter (total .decoder) (alternating (not rising) (drop (at + 1) durations)) ≡ decoderAfter decoder (alternating rising (drop at durations))
+  unfolding runAfter alternating
+  after-next more total goes = rw (drop-cons durations at 0, goes, add-one at)
+
+  pub after-end : length durations ≤ at → decoderAfter decoder (alternating rising (drop at durations)) ≡ decoder
+  unfolding runAfter alternating
+  after-end past = rw (drop-of-length-le durations {i = at} past)

@@ -6,6 +6,8 @@ ghost use mathlib.Core.Path.{_≡_};
 ghost use Prim.Native.Nat.{_<_, _≤_};
 ghost use lib.ListN.{length, drop};
 ghost use Rattle.frames.specs.Filled.{filled};
+ghost use Rattle.reports.specs.Run.{alternating};
+ghost use Rattle.receiver.specs.Decoder.{decoderAfter};
 ghost use Rattle.promises.specs.Send.{cameAs, told, noted, heardOf, sentRefused, sentOf, wrongAt, wrongsOf, leastSilence, mostWrong};
 
 // What the edges behind the first one reported so far: the number of the first of them that reported anything (0: none did), its report, and how many others
@@ -142,6 +144,22 @@ pub fn send(
         Encoded::Refused(number) => refused(decoder, number),
         Encoded::Short(_) => refused(decoder, 3),
     }
+}
+
+// A decoder after any earlier edges, in alternating levels; what they report is not told.
+pub fn after(decoder: Decoder, rising: bool, durations: &[u32]) -> Decoder
+    ensures { λ r. ⌜ r ≡ decoderAfter decoder (alternating rising (now (durations .entry))) ⌝ }
+{
+    let mut heard = decoder;
+    let mut rises = rising;
+    let mut at: usize = 0;
+    while at < durations.len() {
+        let total = heard.event_total(rises, durations[at]);
+        heard = total.decoder;
+        rises = !rises;
+        at += 1;
+    }
+    heard
 }
 
 // A wrong of one size: two durations come too long by it, two too short, and so on.
