@@ -1,6 +1,6 @@
 -- An edge's line by its test, and what the loop of `put_edges` keeps: the lines still to come, put from here on, give the whole. Assumes nothing.
 use Prim.Native.Nat.{ℕ, _+_, _≤_, _<_}
-use mathlib.Core.Path.{_≡_, refl, sym, ap, _∙_}
+use mathlib.Core.Path.{_≡_, sym, ap, _∙_}
 use mathlib.Core.Bool.{Bool, true, false, not, cond}
 use mathlib.Core.List.{List, [], _∷_, _++_}
 use native.Mathlib.Numerals.{add-one}
@@ -19,7 +19,9 @@ use Rattle.rows.specs.Rows.{edgeText}
 use Rattle.edge_rows.specs.EdgeRows.{isShown, shownText, edgesText}
 
 module _ (all : Bool) (number : ℕ) (rising : Bool) (duration : ℕ) (report : Report) where
-  pub shown : (said : Said) → said ≡ reportSaid report → isShown all report ≡ true → edgeText number rising duration said ≡ shownText all number (edge rising duration) report
+  pub shown
+      : (said : Said) → said ≡ reportSaid report → isShown all report ≡ true
+      → edgeText number rising duration said ≡ shownText all number (edge rising duration) report
   unfolding shownText
   shown said e test =
       ap (λ (s : Said). edgeText number rising duration s) e

@@ -1,7 +1,6 @@
 -- `edge_rows::put_edges` meets its contract: the lines still to come, put from here on, give the whole. Assumes nothing.
 use Prim.Native.Nat.{_+_, _-_}
 use mathlib.Core.Path.{_≡_, refl}
-use native.Mathlib.Omega.{arith}
 use lib.ListN.{length, drop}
 use Rattle.reports.specs.Run.{alternating}
 use Rattle.text.specs.Text.{putsOf}
@@ -14,7 +13,8 @@ use Rattle.edge_rows.proofs.put_edges.Tie as tie
 abbrev Inv-loop : tie.InvT-loop
 Inv-loop text₀ at all rising durations after₀ rises₀ next₀ i₀ text after rises next i =
     (length text ≡ length text₀)
-    × (putsOf text next (edgesText after all (i + 1) (alternating rises (drop i durations))) ≡ putsOf text₀ at (edgesText after₀ all 1 (alternating rising durations)))
+    × (putsOf text next (edgesText after all (i + 1) (alternating rises (drop i durations)))
+    ≡ putsOf text₀ at (edgesText after₀ all 1 (alternating rising durations)))
 
 abbrev μ-loop : tie.MeasureT-loop
 μ-loop text₀ at all rising durations after₀ rises₀ next₀ i₀ text after rises next i = length durations - i

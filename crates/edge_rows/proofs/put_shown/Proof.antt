@@ -13,7 +13,8 @@ returns c =
     let test = said .before .before in
     let args = test .before .before .before .args in
     let e = sym (test .before .is-shown .ensures) ∙ test .if1 .taken in
-    same _ _ _ _ _ _ (shown (args .all) (args .number) (args .rising) (args .duration) (args .report) (said .of-report .result) (said .of-report .ensures) e) (put .put-edge .ensures)
+    let line = shown (args .all) (args .number) (args .rising) (args .duration) (args .report) (said .of-report .result) (said .of-report .ensures) e in
+    same _ _ _ _ _ _ line (put .put-edge .ensures)
 
 returns-2 : tie.Need-returns-2
 returns-2 c =
