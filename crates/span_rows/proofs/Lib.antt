@@ -1,0 +1,3 @@
+pub mod Letters
+pub mod Rows
+pub mod Determined
