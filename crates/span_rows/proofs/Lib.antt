@@ -1,3 +1,4 @@
 pub mod Letters
 pub mod Rows
+pub mod Shown
 pub mod Determined

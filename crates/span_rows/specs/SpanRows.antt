@@ -15,18 +15,18 @@ abbrev pub endsAt : Spans → ℕ → Span
 endsAt spans place = record { low = getD (spans .low) place 0; high = getD (spans .high) place 0 }
 
 -- its low end and its high end, in columns of eight
-unfoldable pub endsText : Span → List ℕ
-endsText span = rightText 8 (span .low) ++ rightText 8 (span .high)
+unfoldable pub columnsText : Span → List ℕ
+columnsText span = rightText 8 (span .low) ++ rightText 8 (span .high)
 
 -- those of a protocol, 1 to 5
-unfoldable pub spanText : ℕ → ℕ → ℕ → List ℕ
-spanText protocol rate place = endsText (endsAt (spansOf protocol rate .spans) place)
+unfoldable pub endsText : ℕ → ℕ → ℕ → List ℕ
+endsText protocol rate place = columnsText (endsAt (spansOf protocol rate .spans) place)
 
 -- a line: the place, and the span of each protocol there
 unfoldable pub spanRowText : ℕ → ℕ → List ℕ
 spanRowText rate place =
     chars ("\n" ∷ []) ++ rightText 5 place
-    ++ spanText 1 rate place ++ spanText 2 rate place ++ spanText 3 rate place ++ spanText 4 rate place ++ spanText 5 rate place
+    ++ endsText 1 rate place ++ endsText 2 rate place ++ endsText 3 rate place ++ endsText 4 rate place ++ endsText 5 rate place
 
 -- the lines of so many places, from a place on
 unfoldable pub spanRowsFrom : ℕ → ℕ → ℕ → List ℕ

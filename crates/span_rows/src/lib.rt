@@ -10,7 +10,7 @@ ghost use Prim.Native.Nat.{_<_};
 ghost use Rattle.spans.specs.Spans.{spansOf};
 ghost use Rattle.spans.specs.Lookup.{lookupOf};
 ghost use Rattle.text.specs.Text.{putsOf};
-ghost use Rattle.span_rows.specs.SpanRows.{endsAt, endsText, spanText, spanRowText, spanRowsText, foundText, placeText, placeRowText};
+ghost use Rattle.span_rows.specs.SpanRows.{endsAt, columnsText, endsText, spanRowText, spanRowsText, foundText, placeText, placeRowText};
 
 // The span of a protocol at a place.
 fn ends_at(protocol: u32, rate: u32, place: usize) -> Span
@@ -26,20 +26,20 @@ fn ends_at(protocol: u32, rate: u32, place: usize) -> Span
 }
 
 // The two ends of a span.
-fn put_ends(text: &mut [u8], at: usize, span: Span) -> usize
-    ensures next { λ r. ⌜ r ≡ putsOf (now (text .entry)) at (endsText span) .1 ⌝ }
-    ensures left { λ _. ⌜ now (text .exit) ≡ putsOf (now (text .entry)) at (endsText span) .0 ⌝ }
+fn put_columns(text: &mut [u8], at: usize, span: Span) -> usize
+    ensures next { λ r. ⌜ r ≡ putsOf (now (text .entry)) at (columnsText span) .1 ⌝ }
+    ensures left { λ _. ⌜ now (text .exit) ≡ putsOf (now (text .entry)) at (columnsText span) .0 ⌝ }
 {
     let next = put_right(text, at, 8, span.low as u64);
     put_right(text, next, 8, span.high as u64)
 }
 
-fn put_span(text: &mut [u8], at: usize, protocol: u32, rate: u32, place: usize) -> usize
+fn put_ends(text: &mut [u8], at: usize, protocol: u32, rate: u32, place: usize) -> usize
     requires { ⌜ place < 8 ⌝ }
-    ensures next { λ r. ⌜ r ≡ putsOf (now (text .entry)) at (spanText protocol rate place) .1 ⌝ }
-    ensures left { λ _. ⌜ now (text .exit) ≡ putsOf (now (text .entry)) at (spanText protocol rate place) .0 ⌝ }
+    ensures next { λ r. ⌜ r ≡ putsOf (now (text .entry)) at (endsText protocol rate place) .1 ⌝ }
+    ensures left { λ _. ⌜ now (text .exit) ≡ putsOf (now (text .entry)) at (endsText protocol rate place) .0 ⌝ }
 {
-    put_ends(text, at, ends_at(protocol, rate, place))
+    put_columns(text, at, ends_at(protocol, rate, place))
 }
 
 // On a new line the place, and the span of each protocol there.
@@ -50,11 +50,11 @@ fn put_span_row(text: &mut [u8], at: usize, rate: u32, place: usize) -> usize
 {
     let next = put(text, at, b'\n');
     let next = put_right(text, next, 5, place as u64);
-    let next = put_span(text, next, 1, rate, place);
-    let next = put_span(text, next, 2, rate, place);
-    let next = put_span(text, next, 3, rate, place);
-    let next = put_span(text, next, 4, rate, place);
-    put_span(text, next, 5, rate, place)
+    let next = put_ends(text, next, 1, rate, place);
+    let next = put_ends(text, next, 2, rate, place);
+    let next = put_ends(text, next, 3, rate, place);
+    let next = put_ends(text, next, 4, rate, place);
+    put_ends(text, next, 5, rate, place)
 }
 
 // The lines of all eight places. With a rate that is refused every end is 0.

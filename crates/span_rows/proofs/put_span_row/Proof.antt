@@ -16,11 +16,11 @@ returns c =
     let place = nec .before .before .before .before in
     let newline = place .before .before .before .before in
     let p0 = two _ _ _ _ _ _ _ _ (one _ _ _ _ _ (newline .put .ensures)) (place .put-right .ensures) in
-    let p1 = two _ _ _ _ _ _ _ _ p0 (nec .put-span .ensures) in
-    let p2 = two _ _ _ _ _ _ _ _ p1 (rc5 .put-span2 .ensures) in
-    let p3 = two _ _ _ _ _ _ _ _ p2 (rc6 .put-span3 .ensures) in
-    let p4 = two _ _ _ _ _ _ _ _ p3 (sbp .put-span4 .ensures) in
-    two _ _ _ _ _ _ _ _ p4 (denon .put-span5 .ensures)
+    let p1 = two _ _ _ _ _ _ _ _ p0 (nec .put-ends .ensures) in
+    let p2 = two _ _ _ _ _ _ _ _ p1 (rc5 .put-ends2 .ensures) in
+    let p3 = two _ _ _ _ _ _ _ _ p2 (rc6 .put-ends3 .ensures) in
+    let p4 = two _ _ _ _ _ _ _ _ p3 (sbp .put-ends4 .ensures) in
+    two _ _ _ _ _ _ _ _ p4 (denon .put-ends5 .ensures)
 
 pub put-span-row-spec : {M : Type 1} → statement M
 put-span-row-spec =
