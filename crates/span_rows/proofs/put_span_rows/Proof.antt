@@ -1,7 +1,6 @@
 -- `span_rows::put_span_rows` meets its contract: the lines still to come, put from here on, give the whole. Assumes nothing.
 use Prim.Native.Nat.{_-_}
 use mathlib.Core.Path.{_≡_, refl}
-use native.Mathlib.Omega.{arith}
 use lib.ListN.{length}
 use Rattle.text.specs.Text.{putsOf}
 use Rattle.span_rows.specs.SpanRows.{spanRowsFrom, spanRowsText}
