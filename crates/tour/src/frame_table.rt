@@ -14,7 +14,7 @@ fn print_frame(protocol: u32, rate: u32, places: &[u32], count: usize) {
     print_newline();
     edges::print_head();
     if count <= places.len() {
-        edges::feed(protocol, rate, true, 0, &places[..count]);
+        edges::print_lines(protocol, rate, true, true, &places[..count]);
     }
 }
 

@@ -74,7 +74,7 @@ fn feed_broken() {
         9000,
         2250,
     ];
-    edges::feed(1, 1000000, false, 1, &durations);
+    edges::print_lines(1, 1000000, false, false, &durations);
 }
 
 fn show_held_key() {

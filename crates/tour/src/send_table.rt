@@ -1,18 +1,20 @@
 // A frame sent after noise and a silence, with a wrong at each duration: what was reported.
-use crate::edges;
 use crate::frame_table;
 use crate::out::print;
 use crate::out::print_until;
 use promises::send::Sent;
+use promises::send::after;
 use promises::send::send_wrong;
 use receiver::decoder::Decoder;
 use rows::put_sending;
 use rows::put_sent;
 
-// A decoder that heard noise, of which it reports nothing.
+// A decoder that heard noise.
 fn after_noise(protocol: u32) -> Decoder {
+    let made = Decoder::new(protocol, 1000000);
+    let decoder = made.decoder;
     let noise = [3000u32, 2664, 889, 0];
-    edges::feed(protocol, 1000000, false, 0, &noise)
+    after(decoder, true, &noise)
 }
 
 fn print_sending(
