@@ -12,7 +12,7 @@ pub fn print_head() {
 pub fn print_lines(protocol: u32, rate: u32, all: bool, rising: bool, durations: &[u32]) {
     let made = Decoder::new(protocol, rate);
     let decoder = made.decoder;
-    let mut room = io::large_buffer();
+    let mut room = [0u8; 8000];
     let end = put_edges(&mut room, 0, decoder, all, rising, durations);
     print_until(&room, end);
 }

@@ -14,7 +14,7 @@ fn print_spans(rate: u32) {
     print(
         b" Hz, in ticks, both ends included\nplace     NEC      to     RC5      to     RC6      to     SBP      to   Denon      to",
     );
-    let mut room = io::buffer();
+    let mut room = [0u8; 1000];
     let end = put_span_rows(&mut room, 0, rate);
     print_until(&room, end);
 }
@@ -22,7 +22,7 @@ fn print_spans(rate: u32) {
 fn print_places(rate: u32, duration: u64) {
     print(b"\n\nPlace of duration");
     print_right(0, duration);
-    let mut room = io::buffer();
+    let mut room = [0u8; 200];
     let end = put_place_row(&mut room, 0, rate, duration);
     print_until(&room, end);
 }

@@ -20,7 +20,8 @@ unfolding foundText
 returns-2 c =
     let other = c .before .before in
     let first = other .before .before .before .before in
-    same _ _ _ _ _ _ (ap (λ (found : Found). foundText found) (sym (first .before .before .enum-told .given .1))) (two _ _ _ _ _ _ _ _ (spelled _ _ _ _ _ _ blanks (first .put-letters .ensures)) (spelled _ _ _ _ _ _ none (other .put-letters2 .ensures)))
+    same _ _ _ _ _ _ (ap (λ (found : Found). foundText found) (sym (first .before .before .enum-told .given .1)))
+    (two _ _ _ _ _ _ _ _ (spelled _ _ _ _ _ _ blanks (first .put-letters .ensures)) (spelled _ _ _ _ _ _ none (other .put-letters2 .ensures)))
 
 pub put-found-spec : {M : Type 1} → statement M
 put-found-spec =

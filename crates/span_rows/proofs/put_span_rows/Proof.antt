@@ -26,7 +26,8 @@ loop-again c =
     let test = put .before .before in
     let loop = test .before .loop in (
       search needs,
-      row-put (loop .text) (loop .next) (put .put-span-row .last .0) (put .put-span-row .result) _ (test .before .before .before .args .rate) (loop .place) (test .loop-test .taken) (loop .inv .1) (put .put-span-row .ensures),
+      row-put (loop .text) (loop .next) (put .put-span-row .last .0) (put .put-span-row .result) _
+          (test .before .before .before .args .rate) (loop .place) (test .loop-test .taken) (loop .inv .1) (put .put-span-row .ensures),
     )
 
 returns : tie.Need-returns Inv-loop μ-loop

@@ -26,7 +26,8 @@ loop-again c =
     let test = lead .before .before in
     let loop = test .before .loop in (
       search needs,
-      digit-put (loop .text) (loop .next) (put .put .last .0) (put .put .result) _ (loop .left) _ (loop .power) _ (lead .lead-at .result) (digit .digit-at .result) (test .loop-test .taken) (loop .inv .1) (put .put .ensures) (digit .digit-at .ensures) (lead .lead-at .ensures),
+      digit-put (loop .text) (loop .next) (put .put .last .0) (put .put .result) _ (loop .left) _ (loop .power) _ (lead .lead-at .result)
+          (digit .digit-at .result) (test .loop-test .taken) (loop .inv .1) (put .put .ensures) (digit .digit-at .ensures) (lead .lead-at .ensures),
     )
 
 returns : tie.Need-returns Inv-loop μ-loop

@@ -23,8 +23,11 @@ loop-again c =
     let put = c .before .before in
     let wide = put .before in
     let test = wide .before .before .before in
-    let loop = test .before .loop in
-    (search needs, number-put (loop .text) (loop .next) (put .put-next .last .0) (put .put-next .result) _ _ (loop .i) _ _ _ (test .loop-test .taken) (loop .inv .1) (put .put-next .ensures) refl (wide .wide .ensures))
+    let loop = test .before .loop in (
+      search needs,
+      number-put (loop .text) (loop .next) (put .put-next .last .0) (put .put-next .result) _ _ (loop .i) _ _ _
+          (test .loop-test .taken) (loop .inv .1) (put .put-next .ensures) refl (wide .wide .ensures),
+    )
 
 returns : tie.Need-returns Inv-loop μ-loop
 returns c =

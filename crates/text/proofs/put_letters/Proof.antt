@@ -24,7 +24,8 @@ loop-again c =
     let test = first .before .before in
     let loop = test .before .loop in (
       search needs,
-      letter-put (loop .text) (loop .next) (put .put .last .0) (put .put .result) _ (loop .left) (loop .rest) (first .first-letter .result) (c .other-letters .result) (test .loop-test .taken) (loop .inv .1) (put .put .ensures) (first .first-letter .ensures) (c .other-letters .ensures),
+      letter-put (loop .text) (loop .next) (put .put .last .0) (put .put .result) _ (loop .left) (loop .rest) (first .first-letter .result)
+          (c .other-letters .result) (test .loop-test .taken) (loop .inv .1) (put .put .ensures) (first .first-letter .ensures) (c .other-letters .ensures),
     )
 
 returns : tie.Need-returns Inv-loop μ-loop

@@ -22,8 +22,11 @@ loop-again : tie.Need-loop-again Inv-loop μ-loop
 loop-again c =
     let put = c .before .before in
     let test = put .before .before .before in
-    let loop = test .before .loop in
-    (search needs, number-put (loop .text) (loop .next) (put .put-next .last .0) (put .put-next .result) _ _ (loop .i) _ _ _ (test .loop-test .taken) (loop .inv .1) (put .put-next .ensures) refl refl)
+    let loop = test .before .loop in (
+      search needs,
+      number-put (loop .text) (loop .next) (put .put-next .last .0) (put .put-next .result) _ _ (loop .i) _ _ _
+          (test .loop-test .taken) (loop .inv .1) (put .put-next .ensures) refl refl,
+    )
 
 returns : tie.Need-returns Inv-loop μ-loop
 returns c =

@@ -30,7 +30,8 @@ loop-again c =
     let e : 8 - (loop .place + 1) ≡ 8 - loop .place - 1 = omega arith in (
       search needs,
       ap (λ (n : ℕ). putsOf (put .put-span .last .0) (put .put-span .result) (spansFrom n (loop .place + 1) spans)) e
-          ∙ span-put (loop .text) (loop .next) (put .put-span .last .0) (put .put-span .result) _ (8 - loop .place) (loop .place) (blank .before .gap .result) spans (blank .put .last .0) (blank .put .result) (omega arith) (loop .inv .1) (blank .put .ensures) (blank .before .gap .ensures) (put .put-span .ensures),
+          ∙ span-put (loop .text) (loop .next) (put .put-span .last .0) (put .put-span .result) _ (8 - loop .place) (loop .place) (blank .before .gap .result)
+          spans (blank .put .last .0) (blank .put .result) (omega arith) (loop .inv .1) (blank .put .ensures) (blank .before .gap .ensures) (put .put-span .ensures),
     )
 
 returns : tie.Need-returns Inv-loop μ-loop
