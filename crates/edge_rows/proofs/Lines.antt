@@ -1,7 +1,7 @@
 -- An edge's line by its test, and what the loop of `put_edges` keeps: the lines still to come, put from here on, give the whole. Assumes nothing.
 use Prim.Native.Nat.{ℕ, _+_, _≤_, _<_}
 use mathlib.Core.Path.{_≡_, sym, ap, _∙_}
-use mathlib.Core.Bool.{Bool, true, false, not, cond}
+use mathlib.Core.Bool.{Bool, true, false, not}
 use mathlib.Core.List.{List, [], _∷_, _++_}
 use native.Mathlib.Numerals.{add-one}
 use lib.ListN.{length, getD, drop, drop-of-length-le}
@@ -14,7 +14,7 @@ use Rattle.receiver.specs.declared.decoder.Total.{Total}
 use Rattle.answers.specs.declared.Said.{Said}
 use Rattle.answers.specs.Answers.{reportSaid}
 use Rattle.text.specs.Text.{putsOf}
-use Rattle.text.proofs.Puts.{Put, behind-text, told}
+use Rattle.text.proofs.Puts.{Put, behind-text, picked, told}
 use Rattle.rows.specs.Rows.{edgeText}
 use Rattle.edge_rows.specs.EdgeRows.{isShown, shownText, edgesText}
 
@@ -25,11 +25,11 @@ module _ (all : Bool) (number : ℕ) (rising : Bool) (duration : ℕ) (report : 
   unfolding shownText
   shown said e test =
       ap (λ (s : Said). edgeText number rising duration s) e
-      ∙ ap (λ (b : Bool). cond b (edgeText number rising duration (reportSaid report)) []) (sym test)
+      ∙ picked (isShown all report) true (edgeText number rising duration (reportSaid report)) [] test
 
   pub hidden : isShown all report ≡ false → [] ≡ shownText all number (edge rising duration) report
   unfolding shownText
-  hidden test = ap (λ (b : Bool). cond b (edgeText number rising duration (reportSaid report)) []) (sym test)
+  hidden test = picked (isShown all report) false (edgeText number rising duration (reportSaid report)) [] test
 
 -- the line of the next edge, and those behind it
 next

@@ -25,7 +25,7 @@ pub fn written(encoded: Encoded) -> usize
     ensures { λ r. ⌜ r ≡ writtenOf encoded ⌝ }
 {
     match encoded {
-        Encoded::Wrote(count) => count,
+        Encoded::Wrote(durations) => durations,
         Encoded::Refused(_) => 0,
         Encoded::Short(_) => 0,
     }

@@ -104,7 +104,7 @@ pub record Answered (mayReport : Report → Type 0) (command : Command) (settles
   pub told : (reportNumber (answer .report) ≡ 0) × (reportValues (answer .report) ≡ protocolOf command ∷ valuesOf command)
   pub others : answer .others ≡ 0
 
--- the bounds by protocol number: "a silence (over 14,445 ticks NEC, 1,955 RC5, 2,983 RC6)", "wrong by at most 28 (NEC), 106 (RC5), 53 (RC6)"
+-- the bounds by protocol number: "a silence (over 14,445 ticks NEC, 1,955 RC5, 2,983 RC6)", "wrong by at most 28 (NEC), 106 (RC5), 53 (RC6)"; 0 where no frame is sent
 abbrev pub leastSilence : ℕ → ℕ
 leastSilence protocol = getD (0 ∷ 14446 ∷ 1956 ∷ 2984 ∷ []) protocol 0
 

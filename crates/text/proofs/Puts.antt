@@ -1,6 +1,7 @@
 -- Characters and texts that are put one behind the other. Assumes nothing.
 use Prim.Native.Nat.{ℕ}
-use mathlib.Core.Path.{_≡_, refl, ap, _∙_}
+use mathlib.Core.Path.{_≡_, refl, sym, ap, _∙_}
+use mathlib.Core.Bool.{Bool, cond}
 use mathlib.Core.List.{List, [], _∷_, _++_}
 use Rattle.text.specs.Text.{putOf, putsOf}
 
@@ -24,6 +25,10 @@ module _ (text : List ℕ) (at : ℕ) (left : List ℕ) (next : ℕ) (cs : List 
 
   pub behind-text : (bs : List ℕ) → Put text at bs left next → putsOf left next cs ≡ putsOf text at (bs ++ cs)
   behind-text bs p = (λ i. putsOf (p .1 i) (p .0 i) cs) ∙ append text at bs cs
+
+-- of two texts the one that a test picks
+pub picked : (test told : Bool) (bs cs : List ℕ) → test ≡ told → cond told bs cs ≡ cond test bs cs
+picked test told bs cs e = ap (λ (b : Bool). cond b bs cs) (sym e)
 
 -- what is put in the end, by an equation of the whole
 pub told : (text : List ℕ) (at : ℕ) (bs left : List ℕ) (next : ℕ) → putsOf left next [] ≡ putsOf text at bs → Put text at bs left next

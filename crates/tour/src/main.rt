@@ -73,9 +73,9 @@ fn run_send(count: usize) {
     let cmd = number(4, count, 0, 255);
     let start = number(5, count, 3, 255);
     let toggle = number(6, count, 0, 1);
-    let bound = low_32(protocol);
-    let silence = number(7, count, least_silence(bound) as u64, given::LAST);
-    let wrong = number(8, count, most_wrong(bound) as u64, given::LAST);
+    let sent = low_32(protocol);
+    let silence = number(7, count, least_silence(sent) as u64, given::LAST);
+    let wrong = number(8, count, most_wrong(sent) as u64, given::LAST);
     let all = protocol | addr | cmd | start | toggle | silence | wrong;
     if ((count == 5) | (count == 7) | (count == 9)) & (all <= given::LAST) {
         send_table::show(

@@ -1,21 +1,11 @@
 -- `rows::put_first` meets its contract: its test picks the text, which the letters spell. Assumes nothing.
-use Prim.Native.Nat.{ℕ}
-use mathlib.Core.Path.{_≡_, sym, ap, _∙_}
-use mathlib.Core.Bool.{Bool, true, false, cond}
-use mathlib.Core.List.{List}
-use Rattle.text.proofs.Puts.{two, same}
+use mathlib.Core.Path.{sym, _∙_}
+use Rattle.text.proofs.Puts.{two, same, picked}
 use Rattle.rows.specs.Rows.{firstText}
 use Rattle.rows.proofs.Letters.{spelled, nothing}
 use borrow.Author.Needs.{needs}
 use Rattle.rows.proofs.put_first.Statement.{statement}
 use Rattle.rows.proofs.put_first.Tie as tie
-
-module _ (test : Bool) (xs ys : List ℕ) where
-  none : test ≡ true → xs ≡ cond test xs ys
-  none e = ap (λ (b : Bool). cond b xs ys) (sym e)
-
-  other : test ≡ false → ys ≡ cond test xs ys
-  other e = ap (λ (b : Bool). cond b xs ys) (sym e)
 
 returns : tie.Need-returns
 unfolding firstText
@@ -24,7 +14,7 @@ returns c =
     let put = gap .before .before .before .before in
     let test = put .before .before in
     let e = sym (test .before .is-nothing .ensures) ∙ test .if1 .taken in
-    same _ _ _ _ _ _ (none _ _ _ e) (two _ _ _ _ _ _ _ _ (spelled _ _ _ _ _ _ nothing (put .put-letters .ensures)) (gap .put-gap .ensures))
+    same _ _ _ _ _ _ (picked _ _ _ _ e) (two _ _ _ _ _ _ _ _ (spelled _ _ _ _ _ _ nothing (put .put-letters .ensures)) (gap .put-gap .ensures))
 
 returns-2 : tie.Need-returns-2
 unfolding firstText
@@ -32,7 +22,7 @@ returns-2 c =
     let put = c .before .before in
     let test = put .before .before in
     let e = sym (test .before .is-nothing .ensures) ∙ test .if1 .left in
-    same _ _ _ _ _ _ (other _ _ _ e) (put .put-report .ensures)
+    same _ _ _ _ _ _ (picked _ _ _ _ e) (put .put-report .ensures)
 
 pub put-first-spec : {M : Type 1} → statement M
 put-first-spec =

@@ -1,20 +1,9 @@
 -- `calls::told::put_told` meets its contract: its test picks the definition's branch. Assumes nothing.
-use Prim.Native.Nat.{ℕ}
-use mathlib.Core.Path.{_≡_, sym, ap}
-use mathlib.Core.Bool.{Bool, true, false, cond}
-use mathlib.Core.List.{List}
-use Rattle.text.proofs.Puts.{two, same}
+use Rattle.text.proofs.Puts.{two, same, picked}
 use Rattle.calls.specs.Told.{toldText}
 use borrow.Author.Needs.{needs}
 use Rattle.calls.proofs.told.put_told.Statement.{statement}
 use Rattle.calls.proofs.told.put_told.Tie as tie
-
-module _ (test : Bool) (xs ys : List ℕ) where
-  edge : test ≡ true → xs ≡ cond test xs ys
-  edge e = ap (λ (b : Bool). cond b xs ys) (sym e)
-
-  other : test ≡ false → ys ≡ cond test xs ys
-  other e = ap (λ (b : Bool). cond b xs ys) (sym e)
 
 returns : tie.Need-returns
 unfolding toldText
@@ -23,13 +12,13 @@ returns c =
     let command = said .before .before .before .before in
     let status = command .before .before .before .before in
     let test = status .before .before in
-    same _ _ _ _ _ _ (edge _ _ _ (test .if1 .taken)) (two _ _ _ _ _ _ _ _ (two _ _ _ _ _ _ _ _ (status .put-part .ensures) (command .put-part2 .ensures)) (said .put-said .ensures))
+    same _ _ _ _ _ _ (picked _ _ _ _ (test .if1 .taken)) (two _ _ _ _ _ _ _ _ (two _ _ _ _ _ _ _ _ (status .put-part .ensures) (command .put-part2 .ensures)) (said .put-said .ensures))
 
 returns-2 : tie.Need-returns-2
 unfolding toldText
 returns-2 c =
     let said = c .before .before in
-    same _ _ _ _ _ _ (other _ _ _ (said .before .before .if1 .left)) (said .put-said2 .ensures)
+    same _ _ _ _ _ _ (picked _ _ _ _ (said .before .before .if1 .left)) (said .put-said2 .ensures)
 
 pub put-told-spec : {M : Type 1} → statement M
 put-told-spec =
