@@ -34,7 +34,7 @@ isLetter b = leb 97 b && leb b 122
 abbrev pub isDigit : ℕ → Bool
 isDigit b = leb 48 b && leb b 57
 
--- a number with one more character of its text: a digit as above; any other leaves 2^64 - 1, which no digit changes
+-- a number with one more character of its text: a digit as above, so that one without room changes nothing; any other leaves 2^64 - 1, which no digit changes
 abbrev pub spelledOn : ℕ → ℕ → ℕ
 spelledOn x b = cond (isDigit b) (digitOn x (b - 48)) (2 ^ 64 - 1)
 

@@ -110,7 +110,7 @@ fn spelled_on(x: u64, b: u8) -> u64
     0xFFFFFFFFFFFFFFFF
 }
 
-// The number that a text spells; 2^64 - 1 where a character is no digit.
+// The number that a text spells; 2^64 - 1 where a character is no digit. A digit without room is passed over, so a text of more than 64 bits gives 2^60 or more.
 pub fn number_of(s: &[u8]) -> u64
     ensures { λ r. ⌜ r ≡ readBy spelledOn 0 (now (s .entry)) ⌝ }
 {
