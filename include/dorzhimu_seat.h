@@ -16,7 +16,7 @@
  *             after(frame[i], i % 2 == 0);
  *
  * Reading a pulse, in five lines. For NEC, SBP and Denon a pulse is a mark and
- * the space behind it; for RC5 and RC6 it is the time between two edges:
+ * the space after it; for RC5 and RC6 it is the time between two edges:
  *
  *     uint32_t place;
  *     uint64_t total = (uint64_t)mark + space;
@@ -30,9 +30,9 @@
  *
  * Pointers:
  *
- *  - `frame` points to `room` places that may be written. They need hold
- *    nothing before the call. `length` and `place` point to one number each.
- *    All are aligned as their types ask, and none is null.
+ *  - `frame` points to `room` places that may be written. `length` and `place`
+ *    point to one number each. What they point to need hold nothing before the
+ *    call. All are aligned as their types ask, and none is null.
  *  - What the pointers of one call point to does not overlap, and nobody else
  *    uses it during the call.
  *  - Room 0 is the one exception: `frame` may then be NULL. The proof speaks of
@@ -98,7 +98,7 @@ extern "C" {
  * \brief Write the frame of a command.
  *
  * A frame is a list of durations, in ticks of `rate`. Each is the time before
- * an edge: the edge behind `frame[0]`, which is 0, rises, the next one falls,
+ * an edge: the edge after `frame[0]`, which is 0, rises, the next one falls,
  * and so on. Where the length is odd, as it is for NEC, the last edge rises: the
  * mark that it opens is not part of the frame, and the caller ends it.
  *
@@ -110,15 +110,15 @@ extern "C" {
  * Refusals, in the order in which they are tested, and nothing else is refused:
  *
  *  - `SEAT_REFUSED_PROTOCOL` (2): `protocol` is not `SEAT_NEC`, `SEAT_RC5` or
- *    `SEAT_RC6`. `*length` is 0.
- *  - `SEAT_REFUSED_RATE` (1): `rate` is 0 or above `SEAT_LAST_RATE`. `*length`
- *    is 0.
+ *    `SEAT_RC6`. Nothing is written: `*length` is as it was.
+ *  - `SEAT_REFUSED_RATE` (1): `rate` is 0 or above `SEAT_LAST_RATE`. Nothing is
+ *    written: `*length` is as it was.
  *  - `SEAT_REFUSED_ROOM` (3): `room` is less than the frame's length. `*length`
  *    is the length needed. With room `SEAT_LONGEST` this does not happen.
  *
  * A refused call leaves the places of `frame` as they were. Where nothing is
  * refused, `*length` is the number of durations written, and the places past
- * them are as they were. `*length` is stored by every call.
+ * them are as they were.
  *
  * \param protocol   protocol number, `SEAT_NEC`, `SEAT_RC5` or `SEAT_RC6`.
  * \param rate       ticks a second, 1 to `SEAT_LAST_RATE`.
@@ -128,7 +128,7 @@ extern "C" {
  * \param toggle     toggle bit (RC5 and RC6 only).
  * \param frame      places that receive the durations.
  * \param room       how many places `frame` has.
- * \param length     receives the count written, the length needed, or 0.
+ * \param length     receives the count written, or with refusal 3 the length needed.
  * \return  `SEAT_DONE` (0), or the refusal number: 2, 1 or 3.
  */
 uint32_t seat_encode(uint32_t protocol, uint32_t rate,
@@ -158,7 +158,7 @@ uint32_t seat_encode(uint32_t protocol, uint32_t rate,
  *  - `SEAT_REFUSED_PROTOCOL` (2): `protocol` is not 1 to 5.
  *  - `SEAT_REFUSED_RATE` (1): `rate` is 0 or above `SEAT_LAST_RATE`.
  *
- * `*place` is stored by every call. With a refusal it is `SEAT_NO_PLACE`.
+ * A refused call writes nothing: `*place` is as it was.
  *
  * Each call computes the eight spans anew, in 200 to 300 instructions (counted,
  * not proved).

@@ -15,6 +15,7 @@
 #define MOST_ROOM 100 /* of a recorded call */
 #define GUARD 16      /* places on either side of a lent buffer */
 #define LENT (GUARD + MOST_ROOM + GUARD)
+#define HELD 902      /* what a lent number holds before a call; refusals 2 and 1 leave it */
 
 static unsigned long checks;
 
@@ -37,7 +38,7 @@ struct command {
 
 struct answer {
 	uint32_t number;
-	size_t length;
+	size_t length; /* of the frame, or HELD */
 	uint32_t frame[MOST_ROOM]; /* where number is 0 */
 };
 
@@ -66,16 +67,16 @@ static uint32_t encode(const struct command *c, uint32_t *frame, size_t room, si
 	return seat_encode(c->protocol, c->rate, c->address, c->command, c->start, c->toggle, frame, room, length);
 }
 
-/* The lent length stands between two others, and holds neither 0 nor a length before the call. */
+/* The lent length stands between two others, and holds no frame's length before the call. */
 static void encode_gives(const struct command *c, size_t room, const struct answer *a)
 {
 	uint32_t lent[LENT];
-	size_t lengths[3] = {901, 902, 903};
+	size_t lengths[3] = {901, HELD, 903};
 	size_t written = a->number == SEAT_DONE ? a->length : 0;
 
 	put_marks(lent);
 	check(encode(c, lent + GUARD, room, &lengths[1]) == a->number, "the number that seat_encode returns");
-	check(lengths[1] == a->length, "the length that seat_encode stores");
+	check(lengths[1] == a->length, "the length that seat_encode leaves");
 	check(lengths[0] == 901 && lengths[2] == 903, "the numbers beside the length are kept");
 	check(holds_marks(lent, 0, GUARD), "the places before the frame are kept");
 	check(memcmp(lent + GUARD, a->frame, written * sizeof *lent) == 0, "the durations written");
@@ -85,7 +86,7 @@ static void encode_gives(const struct command *c, size_t room, const struct answ
 
 static void encode_without_frame_gives(const struct command *c, uint32_t number, size_t length)
 {
-	size_t lengths[3] = {901, 902, 903};
+	size_t lengths[3] = {901, HELD, 903};
 
 	check(encode(c, NULL, 0, &lengths[1]) == number, "the number with room 0 and a null frame");
 	check(lengths[1] == length, "the length with room 0 and a null frame");
@@ -96,10 +97,10 @@ static void encode_without_frame_gives(const struct command *c, uint32_t number,
 
 static void lookup_gives(uint32_t protocol, uint32_t rate, uint64_t duration, uint32_t number, uint32_t place)
 {
-	uint32_t places[3] = {901, 902, 903};
+	uint32_t places[3] = {901, HELD, 903};
 
 	check(seat_lookup(protocol, rate, duration, &places[1]) == number, "the number that seat_lookup returns");
-	check(places[1] == place, "the place that seat_lookup stores");
+	check(places[1] == place, "the place that seat_lookup leaves");
 	check(places[0] == 901 && places[2] == 903, "the numbers beside the place are kept");
 }
 
@@ -116,11 +117,11 @@ static const size_t rooms[] = {0, 1, 13, 66, SEAT_LONGEST, MOST_ROOM};
 static void encode_refused(uint32_t protocol, uint32_t rate, uint32_t number)
 {
 	struct command c = {protocol, rate, 4, 8, 3, true};
-	struct answer a = {number, 0, {0}};
+	struct answer a = {number, HELD, {0}};
 
 	for (size_t i = 0; i < COUNT(rooms); i++)
 		encode_gives(&c, rooms[i], &a);
-	encode_without_frame_gives(&c, number, 0);
+	encode_without_frame_gives(&c, number, HELD);
 }
 
 /* A wrong protocol is told before a wrong rate, and that before a room too short. */
@@ -137,13 +138,13 @@ static void encode_refusals(void)
 			encode_refused(protocol, rates_refused[k], SEAT_REFUSED_RATE);
 }
 
-/* Duration 0 is among those tried: the spans of a refusal would hold it. */
+/* Duration 0 is among those tried: the spans of a refused answer would hold it. */
 static void lookup_refused(uint32_t protocol, uint32_t rate, uint32_t number)
 {
 	static const uint64_t durations[] = {0, 1, 889, 13500, UINT32_MAX, UINT64_C(1) << 32, UINT64_MAX};
 
 	for (size_t i = 0; i < COUNT(durations); i++)
-		lookup_gives(protocol, rate, durations[i], number, SEAT_NO_PLACE);
+		lookup_gives(protocol, rate, durations[i], number, HELD);
 }
 
 static void lookup_refusals(void)
@@ -275,7 +276,7 @@ static bool takes(struct text *line, const char *word)
 	return true;
 }
 
-/* Takes a number off the front of a line, and the blank behind it. */
+/* Takes a number off the front of a line, and the blank after it. */
 static uint64_t takes_number(struct text *line)
 {
 	uint64_t n = 0;
@@ -289,7 +290,7 @@ static uint64_t takes_number(struct text *line)
 
 static struct answer recorded_answer(struct text line, size_t room)
 {
-	struct answer a = {SEAT_DONE, 0, {0}};
+	struct answer a = {SEAT_DONE, HELD, {0}};
 
 	if (takes(&line, "wrote ")) {
 		a.length = (size_t)takes_number(&line);
@@ -342,7 +343,7 @@ static void recorded_lookup(struct text call, struct text line)
 	if (takes(&line, "place "))
 		lookup_gives(protocol, rate, duration, SEAT_DONE, (uint32_t)takes_number(&line));
 	else if (takes(&line, "refused "))
-		lookup_gives(protocol, rate, duration, (uint32_t)takes_number(&line), SEAT_NO_PLACE);
+		lookup_gives(protocol, rate, duration, (uint32_t)takes_number(&line), HELD);
 	else {
 		check(takes(&line, "none"), "a recorded answer is a place, none or refused");
 		lookup_gives(protocol, rate, duration, SEAT_DONE, SEAT_NO_PLACE);

@@ -7,7 +7,8 @@ use native.Mathlib.Nat.{not-suc-le-zero, le-of-suc-le-suc}
 use native.Mathlib.Numerals.{add-one}
 use lib.ListN.{getD, length, drop}
 use Rattle.words.specs.declared.Line.{Line}
-use Rattle.calls.specs.Calls.{Range, Call, word64, noCall, calls, callAt, isIn, areFrom, isCall, firstIn, callOf}
+use Rattle.calls.specs.Calls.{Range, Call, word64, calls, isIn, areFrom, isCall, firstIn, callOf}
+use Rattle.calls.specs.CallsSteps.{noCall, callAt}
 
 abbrev pub In : List Range → List ℕ → ℕ → Bool
 In ranges ns i = areFrom i (drop i ranges) ns

@@ -8,7 +8,8 @@ use lib.Dec.{leb, eqb}
 use lib.ListN.{getD, length}
 use borrow.Author.Tests.{eqb-true, leb-true}
 use Rattle.spans.proofs.Within.{both-left, both-right}
-use Rattle.calls.specs.Calls.{Call, calls, callAt, rangeAt, word64}
+use Rattle.calls.specs.Calls.{Call, calls, word64}
+use Rattle.calls.specs.CallsSteps.{callAt, rangeAt}
 
 -- the test holds at each place below a number
 abbrev allBelow : (ℕ → Bool) → ℕ → Bool

@@ -84,13 +84,3 @@ firstIn line ns (c ∷ cs) place = cond (isCall line ns c) place (firstIn line n
 
 unfoldable pub callOf : Line → List ℕ → ℕ
 callOf line ns = firstIn line ns calls 0
-
-abbrev pub noCall : Call
-noCall = record { name = 0; numbers = [] }
-
--- for the tables in the code: the call at a place, and the range of its number at a place
-abbrev pub callAt : ℕ → Call
-callAt place = getD calls place noCall
-
-abbrev pub rangeAt : ℕ → ℕ → Range
-rangeAt place number = getD (callAt place .numbers) number word64

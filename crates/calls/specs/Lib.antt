@@ -1,4 +1,5 @@
 pub mod Calls
+pub mod CallsSteps
 pub mod OnSpans
 pub mod OnSlots
 pub mod OnFrames

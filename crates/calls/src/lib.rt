@@ -10,7 +10,8 @@ ghost use mathlib.Core.Bool.{_&&_};
 ghost use Prim.Native.Nat.{_<_, _≤_};
 ghost use lib.Dec.{eqb};
 ghost use lib.ListN.{length};
-ghost use Rattle.calls.specs.Calls.{isIn, areFrom, isNamed, isCall, callOf, callAt, rangeAt};
+ghost use Rattle.calls.specs.Calls.{isIn, areFrom, isNamed, isCall, callOf};
+ghost use Rattle.calls.specs.CallsSteps.{callAt, rangeAt};
 
 pub const SPANS: usize = 0;
 

@@ -60,10 +60,6 @@ ticksOf place = place + 1
 abbrev pub counted : Rc6Memory → ℕ → Rc6Memory
 counted m ticks = memoryOf (m .state) (m .«data») (m .header) (m .toggle) ((m .clock + ticks) % 2 ^ 64)
 
--- what is gathered then, the state apart
-abbrev pub clocked : Rc6Memory → ℕ → Rc6Memory
-clocked m ticks = inState (counted m ticks) Idle
-
 -- "No span resets at once"
 abbrev pub ticked : Rc6Memory → ℕ → Rc6Memory
 ticked m place = cond (eqb place none) (resetOf m) (counted m (ticksOf place))

@@ -9,7 +9,7 @@ use spans::Spans;
 ghost use mathlib.Core.Path.{_≡_};
 ghost use Prim.Native.Nat.{_≤_};
 ghost use Rattle.rc6.specs.declared.decoder.Rc6State.the-variants.{Idle, HeaderData, Data};
-ghost use Rattle.rc6.specs.Decoder.{pastEnd, isFall, isRise, isOdd, gathered, inState, fromIdle, fromLeading, fromLeadingPause, fromHeaderData, trailed, fromTrailing, fromData, clocked, counted, readFrom, refused, answered, stood, fresh, eventIn, commandOf, resetOf, ruled, totalIn, newAt, eventOf, commandIn, resetIn, eventTotal};
+ghost use Rattle.rc6.specs.Decoder.{pastEnd, isFall, isRise, isOdd, gathered, inState, fromIdle, fromLeading, fromLeadingPause, fromHeaderData, trailed, fromTrailing, fromData, counted, readFrom, refused, answered, stood, fresh, eventIn, commandOf, resetOf, ruled, totalIn, newAt, eventOf, commandIn, resetIn, eventTotal};
 
 pub enum Rc6State {
     Idle,
@@ -335,7 +335,7 @@ fn refused(m: Rc6Memory) -> Rc6EventIn
 
 // What is gathered, with the ticks counted; the clock goes round at 64 bits. The state is read apart.
 fn clocked(m: Rc6Memory, ticks: u64) -> Rc6Memory
-    ensures { λ r. ⌜ r ≡ clocked m ticks ⌝ }
+    ensures { λ r. ⌜ r ≡ inState (counted m ticks) Idle ⌝ }
 {
     Rc6Memory {
         state: Rc6State::Idle,

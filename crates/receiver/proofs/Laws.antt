@@ -1,9 +1,11 @@
--- No event changes a decoder's spans or its protocol. A decoder by number answers as the protocol's own: at each call, and over any run of edges.
+-- No event changes a decoder's spans or its protocol. event_total is the rule of `reports` over the decoder's own event, command and reset, whatever the protocol.
+-- A decoder by number answers as the protocol's own: at each call, and over any run of edges.
 -- At a call each is by computation, `Own` once for all five; a run is by the law of `reports` on runs that answer alike. Assumes nothing.
-use mathlib.Core.Path.{_≡_, refl}
-use mathlib.Core.Bool.{Bool}
+use mathlib.Core.Path.{_≡_, refl, sym, ap, _∙_}
+use mathlib.Core.Bool.{Bool, true, false, cond}
 use mathlib.Core.List.{List}
 use Prim.Native.Nat.{ℕ}
+use Rattle.reports.specs.Rule.{reportOf, resetsAt, ruleReport, ruleAfter}
 use Rattle.reports.specs.Run.{Edge}
 use Rattle.reports.specs.declared.Status.{Status}
 use Rattle.reports.specs.declared.Report.{Report}
@@ -21,17 +23,9 @@ use Rattle.denon.specs.declared.decoder.DenonDecoder.{DenonDecoder}
 use Rattle.receiver.specs.declared.decoder.Memory.{Memory}
 use Rattle.receiver.specs.declared.decoder.Memory.the-variants.{Nec, Rc5, Rc6, Sbp, Denon}
 use Rattle.receiver.specs.declared.decoder.Decoder.{Decoder}
-use Rattle.receiver.specs.Decoder.{eventIn, totalIn, newAt, eventOf, commandIn, resetIn, eventTotal, edgeReport, edgeAfter, reportsOf, decoderAfter}
+use Rattle.receiver.specs.Decoder.{protocolOf, eventIn, commandOf, resetOf, totalIn, newAt, eventOf, commandIn, resetIn, eventTotal, edgeReport, edgeAfter, reportsOf, decoderAfter}
 
 -- ---- what no event changes
-
--- document 01's number of a memory's protocol
-abbrev pub protocolOf : Memory → ℕ
-protocolOf (Nec m) = 1
-protocolOf (Rc5 m) = 2
-protocolOf (Rc6 m) = 3
-protocolOf (Sbp m) = 4
-protocolOf (Denon m) = 5
 
 module _ (d : Decoder) (rising : Bool) (duration : ℕ) where
   pub event-keeps-spans : eventOf d rising duration .decoder .spans ≡ d .spans
@@ -59,6 +53,43 @@ module _ (d : Decoder) (rising : Bool) (duration : ℕ) where
 
 pub reset-keeps-spans : (d : Decoder) → resetIn d .spans ≡ d .spans
 reset-keeps-spans d = refl
+
+-- ---- event_total's rule, once over the table
+
+-- a memory that a test picks, as one of the table
+picked : {M : Type 0} (of : M → Memory) (test : Bool) (x y : M) → of (cond test x y) ≡ cond test (of x) (of y)
+picked of true x y = refl
+picked of false x y = refl
+
+-- the rule over an event of one protocol's memory is the rule over the same event as one of the table
+as-one
+    : {M : Type 0} (of : M → Memory) (command : M → Report) (reset : M → M) → ((m : M) → commandOf (of m) ≡ command m) → ((m : M) → resetOf (of m) ≡ of (reset m))
+    → (status : Status) (m : M)
+    → (ruleReport command status m ≡ ruleReport commandOf status (of m)) × (of (ruleAfter reset status m) ≡ ruleAfter resetOf status (of m))
+as-one of command reset commands resets status m =
+    (ap (reportOf status) (sym (commands m)), picked of (resetsAt status) (reset m) m ∙ ap (λ (after : Memory). cond (resetsAt status) after (of m)) (sym (resets m)))
+
+pub total-is-the-rule
+    : (low high : List ℕ) (m : Memory) (rising : Bool) (duration : ℕ)
+    → let e = eventIn low high m rising duration in
+    let t = totalIn low high m rising duration in
+    (t .report ≡ ruleReport commandOf (e .status) (e .memory)) × (t .memory ≡ ruleAfter resetOf (e .status) (e .memory))
+unfolding eventIn totalIn nec.totalIn rc5.totalIn rc6.totalIn sbp.totalIn denon.totalIn
+total-is-the-rule low high (Nec m) rising duration =
+    let e = nec.eventIn low high m rising duration in
+    as-one Nec nec.commandOf nec.resetOf (λ m. refl) (λ m. refl) (e .status) (e .memory)
+total-is-the-rule low high (Rc5 m) rising duration =
+    let e = rc5.eventIn low high m rising duration in
+    as-one Rc5 rc5.commandOf rc5.resetOf (λ m. refl) (λ m. refl) (e .status) (e .memory)
+total-is-the-rule low high (Rc6 m) rising duration =
+    let e = rc6.eventIn low high m rising duration in
+    as-one Rc6 rc6.commandOf rc6.resetOf (λ m. refl) (λ m. refl) (e .status) (e .memory)
+total-is-the-rule low high (Sbp m) rising duration =
+    let e = sbp.eventIn low high m rising duration in
+    as-one Sbp sbp.commandOf sbp.resetOf (λ m. refl) (λ m. refl) (e .status) (e .memory)
+total-is-the-rule low high (Denon m) rising duration =
+    let e = denon.eventIn low high m rising duration in
+    as-one Denon denon.commandOf denon.resetOf (λ m. refl) (λ m. refl) (e .status) (e .memory)
 
 -- ---- the decoder by number is the protocol's own
 

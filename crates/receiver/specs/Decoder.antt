@@ -21,6 +21,14 @@ use Rattle.receiver.specs.declared.decoder.Event.{Event}
 use Rattle.receiver.specs.declared.decoder.TotalIn.{TotalIn}
 use Rattle.receiver.specs.declared.decoder.Total.{Total}
 
+-- "1 NEC, 2 RC5, 3 RC6, 4 SBP, 5 Denon"
+abbrev pub protocolOf : Memory → ℕ
+protocolOf (Nec m) = 1
+protocolOf (Rc5 m) = 2
+protocolOf (Rc6 m) = 3
+protocolOf (Sbp m) = 4
+protocolOf (Denon m) = 5
+
 -- refusal 4
 abbrev pub pastEnd : Memory → Bool
 pastEnd (Nec m) = nec.pastEnd (m .state)
@@ -29,7 +37,7 @@ pastEnd (Rc6 m) = rc6.pastEnd (m .state)
 pastEnd (Sbp m) = sbp.pastEnd (m .state)
 pastEnd (Denon m) = denon.pastEnd (m .state)
 
--- "1 NEC, 2 RC5, 3 RC6, 4 SBP, 5 Denon"; with a number that is refused, NEC's
+-- the fresh memory of a protocol's number; with a number that is refused, NEC's
 abbrev pub freshOf : ℕ → Memory
 freshOf protocol =
     cond (eqb protocol 2) (Rc5 rc5.fresh)

@@ -4,7 +4,8 @@ use mathlib.Core.Path.{_≡_, refl, sym, _∙_}
 use native.Mathlib.Omega.{arith}
 use borrow.Author.Needs.{needs}
 use borrow.Author.Tests.{not-true, not-false}
-use Rattle.calls.specs.Calls.{callAt, areFrom}
+use Rattle.calls.specs.Calls.{areFrom}
+use Rattle.calls.specs.CallsSteps.{callAt}
 use Rattle.calls.proofs.Steps.{In, number-in, number-out, numbers-in}
 use Rattle.calls.proofs.are_in.Statement.{statement}
 use Rattle.calls.proofs.are_in.Tie as tie
