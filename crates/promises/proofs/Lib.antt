@@ -1,4 +1,6 @@
 pub mod Bits
+pub mod Numbered
+pub mod Apart
 pub mod Run
 pub mod Biphase
 pub mod NecHeard
