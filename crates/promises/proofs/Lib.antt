@@ -12,6 +12,7 @@ pub mod Tight
 pub mod NecTight
 pub mod Rc5Tight
 pub mod Rc6Tight
+pub mod Impostors
 pub mod RepeatPulse
 pub mod RepeatEdge
 pub mod Repeat
