@@ -9,7 +9,7 @@ use Rattle.reports.specs.Run.{Edge, runAfter}
 use Rattle.reports.specs.declared.Report.the-variants as report
 use Rattle.promises.specs.Heard.{Receiver, Heard}
 
--- demand 3 holds of a command, whatever its first edge may report and whatever its silence, deviation, frame and last edge
+-- demand 3 holds of a command, for some frame, silence and deviation, whatever the first edge may report and whichever edge settles the command
 pub record HeardFor (receiver : Receiver) (sent : Command) : Type 1 where
   pub mayReport : Numbers → Type 0
   pub silence : ℕ
