@@ -1,4 +1,5 @@
 pub mod Bits
 pub mod Laws
+pub mod Apart
 pub mod Starred
 pub mod Determined

@@ -1,4 +1,6 @@
 pub mod Bits
+pub mod Numbered
+pub mod Apart
 pub mod Run
 pub mod Biphase
 pub mod NecHeard
@@ -10,6 +12,7 @@ pub mod Tight
 pub mod NecTight
 pub mod Rc5Tight
 pub mod Rc6Tight
+pub mod Impostors
 pub mod RepeatPulse
 pub mod RepeatEdge
 pub mod Repeat

@@ -2,7 +2,7 @@
 -- is a sync; and by induction on the bits that are left each pair of durations adds its bit to those gathered. Assumes nothing.
 use mathlib.Core.Path.{_≡_, refl, sym, ap, _∙_}
 use mathlib.Core.Bool.{true, false, cond}
-use mathlib.Core.List.{List, [], _∷_}
+use mathlib.Core.List.{List, [], _∷_, map}
 use Prim.Native.Nat.{ℕ, zero, suc, _+_, _*_, _/_, _%_, _^_, _≤_, _<_}
 use native.Mathlib.Omega.{arith}
 use native.Mathlib.Nat.{mod-lt, mod-eq-of-lt, one-mul}
@@ -18,6 +18,7 @@ use Rattle.commands.specs.declared.Command.the-variants as command
 use Rattle.commands.specs.declared.nec.NecCommand.{NecCommand}
 use Rattle.commands.proofs.Laws.{nec-back, nec-fits}
 use Rattle.frames.specs.Frames.{pairsFrom}
+use Rattle.reports.specs.Reports.{reportNumbers}
 use Rattle.reports.specs.Run.{Edge, edge, runReports, alternating}
 use Rattle.reports.specs.declared.Fault.the-variants.{Data}
 use Rattle.reports.specs.declared.Report.{Report}
@@ -164,7 +165,7 @@ with-spans earlier =
 -- The first edge ends in no span: the receiver waits in Init after it, and what it reported may be the broken frame's error.
 pub record Opened (m : NecMemory) (gap : ℕ) : Type 0 where
   pub first : Report
-  pub allowed : NothingOrData first
+  pub allowed : NothingOrData (reportNumbers first)
   pub bits : ℕ
   pub told : edgeReport (of m) (edge true gap) ≡ first
   pub kept : edgeAfter (of m) (edge true gap) ≡ of (at Init bits 0)
@@ -214,9 +215,9 @@ nec-heard addr cmd a c earlier gap durations silent near =
     let o = opened m (m .state) gap refl (run-reachable 1000000 earlier) silent in
     let go = headed n (o .bits) durations (nec-fits sent a c) near in
     let long : length (necFrame sent 1000000) ≡ suc (length durations) = first-and-rest n ∙ ap suc (sym (near-length near)) in (
-      o .first,
+      reportNumbers (o .first),
       o .allowed,
-      ap (λ (d : NecDecoder). reportsOf d (alternating true (gap ∷ durations))) (with-spans earlier)
+      ap (λ (d : NecDecoder). map reportNumbers (reportsOf d (alternating true (gap ∷ durations)))) (with-spans earlier)
           ∙ heard works (necFrame sent 1000000) durations gap (of m) (o .first) (command.Nec sent) 0 67 (at Init (o .bits) 0) long (sym (length-frame n 1000000)) (o .told) (o .kept) waits
           (rw (nec-back sent a c) at go),
     )

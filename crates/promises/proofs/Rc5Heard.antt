@@ -17,6 +17,7 @@ use Rattle.commands.specs.declared.Command.the-variants as command
 use Rattle.commands.specs.declared.rc5.Rc5Command.{Rc5Command}
 use Rattle.commands.proofs.Laws.{rc5-back}
 use Rattle.frames.specs.Frames.{bitSet}
+use Rattle.reports.specs.Reports.{reportNumbers}
 use Rattle.reports.specs.Run.{Edge, edge, runReports, alternating}
 use Rattle.reports.specs.declared.Report.the-variants as report
 use Rattle.reports.proofs.Either.{either}
@@ -233,7 +234,7 @@ module _ (sent : Rc5Command) (silence wrong : ℕ) where
   unfolding Heard frameOf
   heard-within ha hc least most long small earlier gap durations over near =
       let go = goes wrong small (packOf sent) durations (opens sent ha hc least most) near in (
-        report.Nothing,
+        reportNumbers report.Nothing,
         nothing,
         heard works frame durations gap (heardFrom earlier) report.Nothing (command.Rc5 sent) 0 (length frame) begun
             (ap suc (sym (near-length near))) (add-zero (length frame))

@@ -2,7 +2,7 @@
 -- (address 0, command 0, toggle clear, start 3). One run each, computed: not one of its 26 edges reports anything. Assumes nothing.
 use mathlib.Core.Path.{_≡_, refl, sym, _∙_}
 use mathlib.Core.Bool.{true, false}
-use mathlib.Core.List.{List, [], _∷_}
+use mathlib.Core.List.{List, [], _∷_, map}
 use Prim.Native.Nat.{ℕ}
 use native.Mathlib.Omega.{arith}
 use lib.ListN.{length, drop}
@@ -10,8 +10,8 @@ use Rattle.spans.specs.Spans.{spansOf, spansAt}
 use Rattle.spans.specs.Lookup.{lowestFrom}
 use Rattle.commands.specs.Rc5.{packOf}
 use Rattle.commands.specs.declared.Command.the-variants as command
+use Rattle.reports.specs.Reports.{Numbers, reportNumbers}
 use Rattle.reports.specs.Run.{Edge, edge, runReports, runAfter, alternating}
-use Rattle.reports.specs.declared.Report.{Report}
 use Rattle.rc5.specs.Decoder.{stepIn, eventIn, totalIn, newAt, reportsOf, decoderAfter}
 use Rattle.rc5_encoder.specs.Encoder.{frameOf, piecesAfter, rc5Frame}
 use Rattle.rc5_encoder.proofs.Starred.{starred}
@@ -22,8 +22,9 @@ abbrev frame : List ℕ
 frame = rc5Frame starred 1000000
 
 -- what is reported at the edges of a frame, after a silence and earlier edges
-abbrev reported : List Edge → ℕ → List ℕ → List Report
-reported earlier gap durations = reportsOf (decoderAfter (newAt 1000000 .decoder) earlier) (alternating true (gap ∷ durations))
+abbrev reported : List Edge → ℕ → List ℕ → List Numbers
+reported earlier gap durations =
+    map reportNumbers (reportsOf (decoderAfter (newAt 1000000 .decoder) earlier) (alternating true (gap ∷ durations)))
 
 -- the first single is 107 long of 889: 996 is no span, so that falling edge resets, and a frame opened by the next rising edge is a bit short
 abbrev longSingle : List ℕ

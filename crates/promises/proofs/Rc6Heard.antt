@@ -2,7 +2,7 @@
 -- mode and toggle are read edge by edge; and the bits are followed to the command. Assumes nothing.
 use mathlib.Core.Path.{_≡_, refl, sym, ap, _∙_}
 use mathlib.Core.Bool.{Bool, true, false, not, cond}
-use mathlib.Core.List.{List, _∷_, _++_}
+use mathlib.Core.List.{List, _∷_, _++_, map}
 use Prim.Native.Nat.{ℕ, suc, _+_, _*_, _≤_, _<_}
 use native.Mathlib.Omega.{arith}
 use lib.ListN.{length, drop}
@@ -12,6 +12,7 @@ use Rattle.commands.specs.declared.rc6.Rc6Command.{Rc6Command}
 use Rattle.commands.proofs.Laws.{rc6-fits, rc6-back}
 use Rattle.frames.specs.Frames.{bitSet}
 use Rattle.frames.proofs.LowBits.{same-bits}
+use Rattle.reports.specs.Reports.{reportNumbers}
 use Rattle.reports.specs.Run.{Edge, edge, alternating}
 use Rattle.reports.specs.declared.Report.the-variants as report
 use Rattle.reports.proofs.Run.{after-keeps}
@@ -126,9 +127,9 @@ module _ (sent : Rc6Command) (a : sent .addr < 256) (c : sent .cmd < 256) where
       let above : 2983 < gap = omega arith in
       let long : length frame ≡ suc (length durations) = first-and-rest (sent .toggle) n ∙ ap suc (sym (near-length near)) in
       let go = headed n (rc6-fits sent a c) (sent .toggle) (m .toggle) durations near in (
-        report.Nothing,
+        reportNumbers report.Nothing,
         nothing,
-        ap (λ (d : Rc6Decoder). reportsOf d (alternating true (gap ∷ durations))) (with-spans earlier)
+        ap (λ (d : Rc6Decoder). map reportNumbers (reportsOf d (alternating true (gap ∷ durations)))) (with-spans earlier)
             ∙ heard works frame durations gap (of m) report.Nothing (command.Rc6 sent) behind settles (headAt Leading 0 (m .toggle) 0)
             long place (open-told m gap taken above) (open-kept m gap taken above) (receives _ refl refl)
             (rw (rc6-back sent a c, last-bit (sent .addr) (sent .cmd)) at go),

@@ -2,14 +2,16 @@
 -- the decoder holds, by induction on the edges, and a repeat is read off that. From Init, and with no sync, no bit is added. Assumes nothing.
 use mathlib.Core.Path.{_≡_, refl, sym, ap, _∙_}
 use mathlib.Core.Bool.{Bool, true, false, not, _&&_}
-use mathlib.Core.List.{List, [], _∷_, _++_}
+use mathlib.Core.List.{List, [], _∷_, _++_, map}
 use Prim.Native.Nat.{ℕ}
 use lib.ListN.{length}
 use borrow.Author.Tests.{not-true}
 use Rattle.commands.specs.Nec.{unpackOf}
 use Rattle.commands.specs.declared.nec.NecCommand.{NecCommand}
+use Rattle.reports.specs.Reports.{reportNumbers}
 use Rattle.reports.specs.Run.{Edge, runAfter, runReports}
 use Rattle.reports.specs.declared.Report.the-variants as report
+use Rattle.reports.proofs.Apart.{reports-apart}
 use Rattle.reports.proofs.Run.{after-joined, after-keeps}
 use Rattle.nec.specs.Decoder as nec
 use Rattle.nec.specs.declared.decoder.NecDecoder.{NecDecoder}
@@ -105,13 +107,13 @@ broken-frame-repeated rate earlier since wrong last fault c breaks none said =
 -- ---- with nothing reported between: a sync that opened would go on receiving, and no repeat could come
 
 abbrev Silent : NecDecoder → List Edge → Type 0
-Silent d edges = nec.reportsOf d edges ≡ quiet (length edges)
+Silent d edges = map reportNumbers (nec.reportsOf d edges) ≡ quiet (length edges)
 
 silent-parts
     : (d : NecDecoder) (edge : Edge) (edges : List Edge) → Silent d (edge ∷ edges)
     → (nec.edgeReport d edge ≡ report.Nothing) × Silent (nec.edgeAfter d edge) edges
 unfolding runReports
-silent-parts d edge edges h = (cc, cc)
+silent-parts d edge edges h = (reports-apart (nec.edgeReport d edge) report.Nothing (cc), cc)
 
 receiving-on
     : (d : NecDecoder) (edges : List Edge) → receiving (d .memory .state) ≡ true → Silent d edges

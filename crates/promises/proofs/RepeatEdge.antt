@@ -14,6 +14,7 @@ use Rattle.reports.specs.Run.{Edge}
 use Rattle.reports.specs.declared.Fault.{Fault}
 use Rattle.reports.specs.declared.Report.{Report}
 use Rattle.reports.specs.declared.Report.the-variants as report
+use Rattle.reports.proofs.Apart.{reports-apart}
 use Rattle.reports.proofs.Either.{either}
 use Rattle.nec.specs.Decoder as nec
 use Rattle.nec.specs.declared.decoder.NecDecoder.{NecDecoder}
@@ -21,7 +22,7 @@ use Rattle.nec.specs.declared.decoder.NecMemory.{NecMemory}
 use Rattle.nec.specs.declared.decoder.NecState.the-variants.{Init, Receiving, Error}
 use Rattle.nec.specs.declared.decoder.NecTotalIn.{NecTotalIn}
 use Rattle.nec.proofs.Laws.{total-taken}
-use Rattle.promises.specs.Repeat.{reads, opens, taken, gatheredAt, Reported}
+use Rattle.promises.specs.Repeat.{reads, opens, taken, gatheredAt, Reported, Failed}
 use Rattle.promises.specs.Repeat.{OnlySyncClears, NoBitLost, ErrorClearsNothing, CommandClearsNothing, ResetClearsNothing}
 use Rattle.promises.proofs.RepeatPulse.{told, necCommand, ended, framed, receiving, Waits, told-command, told-repeat, told-waiting, told-error, told-framed, ruled-framed, ruled-ended, ruled-bits, nextAt, at-bits, at-past, at-bare, at-waiting, at-framed, at-opens}
 
@@ -74,11 +75,27 @@ module _ (d : NecDecoder) (edge : Edge) where
       go true h = other (sym said ∙ ap (λ (t : NecTotalIn). t .report) (refused h))
       go false h = refl
 
-  command-taken : (c : NecCommand) → Reported d edge c → nec.pastEnd (d .memory .state) ≡ false
-  command-taken c said = taken-told (necCommand c) said (λ h. cc)
+  -- what is told in numbers is that report
+  pub command-told : (c : NecCommand) → Reported d edge c → nec.edgeReport d edge ≡ necCommand c
+  command-told c said = reports-apart (nec.edgeReport d edge) (necCommand c) said
 
-  error-taken : (fault : Fault) → nec.edgeReport d edge ≡ report.Error fault → nec.pastEnd (d .memory .state) ≡ false
-  error-taken fault said = taken-told (report.Error fault) said (λ h. cc)
+  pub error-told : (fault : Fault) → Failed d edge fault → nec.edgeReport d edge ≡ report.Error fault
+  error-told fault said = reports-apart (nec.edgeReport d edge) (report.Error fault) said
+
+  -- and a step was taken, whose state and bits it is told of
+  command-next
+      : (c : NecCommand) → Reported d edge c
+      → (nec.pastEnd (d .memory .state) ≡ false) × (told (next .state) (next .bits) ≡ necCommand c)
+  command-next c said =
+      let h = taken-told (necCommand c) (command-told c said) (λ h. cc) in
+      (h, sym (reported h) ∙ command-told c said)
+
+  error-next
+      : (fault : Fault) → Failed d edge fault
+      → (nec.pastEnd (d .memory .state) ≡ false) × (told (next .state) (next .bits) ≡ report.Error fault)
+  error-next fault said =
+      let h = taken-told (report.Error fault) (error-told fault said) (λ h. cc) in
+      (h, sym (reported h) ∙ error-told fault said)
 
 -- ---- who clears the bits
 
@@ -112,14 +129,14 @@ opens-not d edge r said other = go (opens d edge) refl
 
 pub error-clears-nothing : ErrorClearsNothing
 error-clears-nothing d edge fault said =
-    let h = error-taken d edge fault said in
+    let (h, tells) = error-next d edge fault said in
     after-bits d edge h
     ∙ at-bare (d .memory .state) (reads d edge) (d .memory .bits) (edge .duration) (edge .rising)
-    (told-error (next d edge .state) (next d edge .bits) fault (sym (reported d edge h) ∙ said) .0)
+    (told-error (next d edge .state) (next d edge .bits) fault tells .0)
 
 pub command-clears-nothing : CommandClearsNothing
 command-clears-nothing d edge c said =
-    let none = opens-not d edge (necCommand c) said (λ h. cc) in
+    let none = opens-not d edge (necCommand c) (command-told d edge c said) (λ h. cc) in
     only-sync-clears d edge ∙ rw none
 
 pub reset-clears-nothing : ResetClearsNothing
@@ -148,15 +165,14 @@ pub command-read
     : (d : NecDecoder) (edge : Edge) (c : NecCommand) → Reported d edge c
     → (c ≡ unpackOf (nec.edgeAfter d edge .memory .bits) (c .repeat)) × (nec.edgeAfter d edge .memory .state ≡ Init)
 command-read d edge c said =
-    let h = command-taken d edge c said in
-    let (read, back) = told-command (next d edge .state) (next d edge .bits) c (sym (reported d edge h) ∙ said) in
+    let (h, tells) = command-next d edge c said in
+    let (read, back) = told-command (next d edge .state) (next d edge .bits) c tells in
     (read ∙ ap (λ (bits : ℕ). unpackOf bits (c .repeat)) (sym (after-bits d edge h)), after-ended d edge h back)
 
 -- a repeat is read off the bits that there were
 pub repeat-read : (d : NecDecoder) (edge : Edge) (c : NecCommand) → Reported d edge c → c .repeat ≡ true → c ≡ unpackOf (d .memory .bits) true
 repeat-read d edge c said again =
-    let h = command-taken d edge c said in
-    let tells = sym (reported d edge h) ∙ said in
+    let tells = command-next d edge c said .1 in
     let kept = told-repeat (next d edge .state) (next d edge .bits) c tells again in
     let same = at-bare (d .memory .state) (reads d edge) (d .memory .bits) (edge .duration) (edge .rising) kept in
     told-command (next d edge .state) (next d edge .bits) c tells .0
@@ -164,10 +180,10 @@ repeat-read d edge c said again =
     ∙ ap (λ (bits : ℕ). unpackOf bits true) same
 
 -- after an error the decoder is back in Init
-pub error-back : (d : NecDecoder) (edge : Edge) (fault : Fault) → nec.edgeReport d edge ≡ report.Error fault → nec.edgeAfter d edge .memory .state ≡ Init
+pub error-back : (d : NecDecoder) (edge : Edge) (fault : Fault) → Failed d edge fault → nec.edgeAfter d edge .memory .state ≡ Init
 error-back d edge fault said =
-    let h = error-taken d edge fault said in
-    after-ended d edge h (told-error (next d edge .state) (next d edge .bits) fault (sym (reported d edge h) ∙ said) .1)
+    let (h, tells) = error-next d edge fault said in
+    after-ended d edge h (told-error (next d edge .state) (next d edge .bits) fault tells .1)
 
 -- ---- from Init, where no sync opens: Init stays, no bit is added, and a command is a repeat
 
@@ -191,8 +207,8 @@ module _ (d : NecDecoder) (edge : Edge) (init : d .memory .state ≡ Init) (none
 
 pub init-repeats : (d : NecDecoder) (edge : Edge) (c : NecCommand) → d .memory .state ≡ Init → Reported d edge c → c .repeat ≡ true
 init-repeats d edge c init said =
-    let none = opens-not d edge (necCommand c) said (λ h. cc) in
-    told-waiting (next d edge .state) (next d edge .bits) c (waits d edge init none .0) (sym (reported d edge (command-taken d edge c said)) ∙ said)
+    let none = opens-not d edge (necCommand c) (command-told d edge c said) (λ h. cc) in
+    told-waiting (next d edge .state) (next d edge .bits) c (waits d edge init none .0) (command-next d edge c said .1)
 
 -- ---- while a frame is being received: it goes on until something is reported, and that is no repeat
 
@@ -205,4 +221,4 @@ module _ (d : NecDecoder) (edge : Edge) (frame : receiving (d .memory .state) �
 
   pub no-repeat : (c : NecCommand) → Reported d edge c → c .repeat ≡ false
   no-repeat c said =
-      told-framed (next d edge .state) (next d edge .bits) c frames (sym (reported d edge (command-taken d edge c said)) ∙ said)
+      told-framed (next d edge .state) (next d edge .bits) c frames (command-next d edge c said .1)

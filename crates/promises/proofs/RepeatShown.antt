@@ -2,13 +2,14 @@
 -- Two pulses are too few whatever they are: a sync that opens leaves one known decoder, whose next pulse reports nothing or error Data. Assumes nothing.
 use mathlib.Core.Path.{_≡_, refl, ap, _∙_}
 use mathlib.Core.Bool.{true, false}
-use mathlib.Core.List.{List, [], _∷_}
+use mathlib.Core.List.{List, [], _∷_, map}
 use Prim.Native.Nat.{ℕ}
 use lib.Dec.{eqb}
 use Rattle.spans.specs.Spans.{spansOf, spansAt}
 use Rattle.spans.specs.Lookup.{lowestFrom}
 use Rattle.commands.specs.Nec.{packOf, unpackOf}
 use Rattle.frames.specs.Frames.{pairsFrom}
+use Rattle.reports.specs.Reports.{Numbers, reportNumbers}
 use Rattle.reports.specs.Run.{edge, runReports, alternating}
 use Rattle.reports.specs.declared.Report.{Report}
 use Rattle.reports.specs.declared.Report.the-variants.{Nothing}
@@ -27,21 +28,21 @@ use Rattle.promises.specs.Totals.{atPairs, Tells, paired}
 use Rattle.promises.proofs.RepeatEdge.{reported, sync-forgets}
 use Rattle.promises.proofs.RepeatPulse.{told}
 
-by-one : (pulses : List ℕ) (reports : List Report) → nec.reportsOf (freshAt 1000000) (edgesAt pulses) ≡ atPairs reports → Tells pulses reports
+by-one : (pulses : List ℕ) (all : List Numbers) → map reportNumbers (nec.reportsOf (freshAt 1000000) (edgesAt pulses)) ≡ atPairs all → Tells pulses all
 unfolding Tells
-by-one pulses reports computed pairs parted =
-    by-totals (freshAt 1000000) (fresh-reachable 1000000) pairs
-    ∙ ap (λ (ts : List ℕ). nec.reportsOf (freshAt 1000000) (edgesAt ts)) parted
+by-one pulses all computed pairs parted =
+    ap (map reportNumbers) (by-totals (freshAt 1000000) (fresh-reachable 1000000) pairs)
+    ∙ ap (λ (ts : List ℕ). map reportNumbers (nec.reportsOf (freshAt 1000000) (edgesAt ts))) parted
     ∙ computed
 
 -- ---- the pulse behind a sync that opens
 abbrev behind : ℕ → Report
 behind pulse = nec.edgeReport (syncedAt 1000000) (edge true pulse)
 
-behind-silent : (pulse : ℕ) → NothingOrData (behind pulse)
+behind-silent : (pulse : ℕ) → NothingOrData (reportNumbers (behind pulse))
 behind-silent pulse =
     let place = reads (syncedAt 1000000) (edge true pulse) in
-    let Holds : NecMemory → Type 0 = λ n. NothingOrData (told (n .state) (n .bits)) in
+    let Holds : NecMemory → Type 0 = λ n. NothingOrData (reportNumbers (told (n .state) (n .bits))) in
     rw (reported (syncedAt 1000000) (edge true pulse) refl)
     (either Holds (eqb place 2) nothing (either Holds (eqb place 3) nothing broken))
 
@@ -66,8 +67,8 @@ one-pair d pulse pulses still = ap (λ (t : NecTotal). t .report ∷ nec.reports
 
 two-reports
     : (sync pulse : ℕ) → opens (freshAt 1000000) (edge true sync) ≡ true
-    → nec.reportsOf (freshAt 1000000) (edgesAt (sync ∷ pulse ∷ [])) ≡ atPairs (Nothing ∷ behind pulse ∷ [])
-unfolding runReports edgesAt atPairs
+    → nec.reportsOf (freshAt 1000000) (edgesAt (sync ∷ pulse ∷ [])) ≡ Nothing ∷ Nothing ∷ Nothing ∷ behind pulse ∷ []
+unfolding runReports edgesAt
 two-reports sync pulse opened =
     let (silent, synced) = sync-forgets (freshAt 1000000) (edge true sync) opened in
     one-pair (freshAt 1000000) sync (pulse ∷ []) fresh-still
@@ -83,7 +84,7 @@ repeat-shown =
     record {
       fresh-unit = by-one _ _ refl;
       shortest = by-one _ _ refl;
-      two-too-few = λ sync pulse opened. (behind pulse, behind-silent pulse, by-one _ _ (two-reports sync pulse opened));
+      two-too-few = λ sync pulse opened. (reportNumbers (behind pulse), behind-silent pulse, by-one _ _ (ap (map reportNumbers) (two-reports sync pulse opened)));
       sync-then-repeat = by-one _ _ refl;
       one-bit-heard = by-one _ _ refl;
       whole-frame = by-one _ _ refl;

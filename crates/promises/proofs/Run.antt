@@ -4,16 +4,18 @@
 -- A step is told apart from the rule of event_total after it, so that the step of the last bit is one like the others. Assumes nothing.
 use mathlib.Core.Path.{_≡_, refl, sym, ap, _∙_}
 use mathlib.Core.Bool.{Bool, true, false, not}
-use mathlib.Core.List.{List, [], _∷_, _++_}
+use mathlib.Core.List.{List, [], _∷_, _++_, map}
 use Prim.Native.Nat.{ℕ, zero, suc, _+_, _-_}
 use native.Mathlib.Omega.{arith}
 use lib.ListN.{length, length-append, length-replicate}
 use Rattle.commands.specs.declared.Command.{Command}
+use Rattle.reports.specs.Reports.{Numbers, reportNumbers}
 use Rattle.reports.specs.declared.Report.{Report}
 use Rattle.reports.specs.declared.Report.the-variants as report
 use Rattle.reports.specs.Run.{Edge, edge, runReports, alternating}
 use Rattle.reports.proofs.Run.{reports-counted}
-use Rattle.promises.specs.Heard.{Receiver, Near, none, more, quiet, onlyAt}
+use Rattle.promises.specs.Heard.{Receiver, Near, none, more, onlyAt}
+use Rattle.promises.proofs.Numbered.{nothings, among, among-numbers}
 
 -- The step of a receiver, and the rule after it: what is told, and what is kept.
 pub record Works (R : Receiver) : Type 1 where
@@ -43,8 +45,8 @@ tail [] = []
 tail (x ∷ xs) = xs
 
 -- reports that begin with nothing and have a command behind n of them
-peel : (n : ℕ) (c : Command) (xs ys : List Report) → report.Nothing ∷ xs ≡ quiet n ++ (report.Command c ∷ ys)
-    → (m : ℕ) × (xs ≡ quiet m ++ (report.Command c ∷ ys))
+peel : (n : ℕ) (c : Command) (xs ys : List Report) → report.Nothing ∷ xs ≡ nothings n ++ (report.Command c ∷ ys)
+    → (m : ℕ) × (xs ≡ nothings m ++ (report.Command c ∷ ys))
 unfolding tail
 peel zero c xs ys e = let z : _≡_ {A = ℕ} 0 1 = cc in absurd (omega arith)
 peel (suc n) c xs ys e = (n, ap tail e)
@@ -70,7 +72,7 @@ module _ {R : Receiver} (W : Works R) where
     pub left : List ℕ
     pub holds : G last edge left
     pub before : ℕ
-    pub all : From m rising durations ≡ quiet before ++ From last edge left
+    pub all : From m rising durations ≡ nothings before ++ From last edge left
 
   module _ {G : W .Memory → Bool → List ℕ → Type 0} where
     pub here : {m : W .Memory} {rising : Bool} {durations : List ℕ} → G m rising durations → Goes G m rising durations
@@ -102,27 +104,27 @@ module _ {R : Receiver} (W : Works R) where
 
   -- The command is reported, and then nothing at the durations that are left.
   abbrev pub Reports : Command → ℕ → W .Memory → Bool → List ℕ → Type 0
-  Reports c behind m rising durations = From m rising durations ≡ report.Command c ∷ quiet behind
+  Reports c behind m rising durations = From m rising durations ≡ report.Command c ∷ nothings behind
 
-  -- All reports but the first: quiet, the command, quiet.
+  -- All reports but the first: nothing, the command, nothing.
   rest : (c : Command) (behind : ℕ) (m : W .Memory) (durations : List ℕ) → Silent m → Goes (Reports c behind) m true durations
-      → reportsFrom (W .of m) (alternating false durations) ≡ quiet (length durations - 1 - behind) ++ (report.Command c ∷ quiet behind)
-  rest c behind m durations silent g = go (peel (g .before) c _ (quiet behind) start)
+      → reportsFrom (W .of m) (alternating false durations) ≡ among (length durations - 1 - behind) c behind
+  rest c behind m durations silent g = go (peel (g .before) c _ (nothings behind) start)
     where
-      start : report.Nothing ∷ reportsFrom (W .of m) (alternating false durations) ≡ quiet (g .before) ++ (report.Command c ∷ quiet behind)
+      start : report.Nothing ∷ reportsFrom (W .of m) (alternating false durations) ≡ among (g .before) c behind
       start = rw (silent .nothing, silent .same, g .holds) at (g .all)
 
-      counted : (n : ℕ) → reportsFrom (W .of m) (alternating false durations) ≡ quiet n ++ (report.Command c ∷ quiet behind) → length durations ≡ n + suc behind
+      counted : (n : ℕ) → reportsFrom (W .of m) (alternating false durations) ≡ among n c behind → length durations ≡ n + suc behind
       counted n e =
           sym (reports-counted (R .report) (R .after) (W .of m) (alternating false durations) ∙ length-alternating false durations)
-          ∙ ap length e ∙ length-append (quiet n) (report.Command c ∷ quiet behind)
+          ∙ ap length e ∙ length-append (nothings n) (report.Command c ∷ nothings behind)
           ∙ rw (length-replicate n report.Nothing, length-replicate behind report.Nothing)
 
-      go : (n : ℕ) × (reportsFrom (W .of m) (alternating false durations) ≡ quiet n ++ (report.Command c ∷ quiet behind))
-          → reportsFrom (W .of m) (alternating false durations) ≡ quiet (length durations - 1 - behind) ++ (report.Command c ∷ quiet behind)
+      go : (n : ℕ) × (reportsFrom (W .of m) (alternating false durations) ≡ among n c behind)
+          → reportsFrom (W .of m) (alternating false durations) ≡ among (length durations - 1 - behind) c behind
       go (n, e) =
           let same : length durations - 1 - behind ≡ n = omega (arith, counted n e) in
-          e ∙ ap (λ (k : ℕ). quiet k ++ (report.Command c ∷ quiet behind)) (sym same)
+          e ∙ ap (λ (k : ℕ). among k c behind) (sym same)
 
   -- The first edge, and the run after it.
   pub heard
@@ -130,9 +132,11 @@ module _ {R : Receiver} (W : Works R) where
       → length frame ≡ suc (length durations) → settles + behind ≡ length frame
       → R .report decoder (edge true gap) ≡ first → R .after decoder (edge true gap) ≡ W .of m
       → Silent m → Goes (Reports c behind) m true durations
-      → reportsFrom decoder (alternating true (gap ∷ durations)) ≡ onlyAt (length frame) settles first c
+      → map reportNumbers (reportsFrom decoder (alternating true (gap ∷ durations))) ≡ onlyAt (length frame) settles (reportNumbers first) c
   unfolding runReports alternating
   heard frame durations gap decoder first c behind settles m long place told kept silent g =
       let before : settles - 2 ≡ length durations - 1 - behind = omega arith in
       let after : length frame - settles ≡ behind = omega arith in
-      rw (told, kept, before, after) (ap (λ (reports : List Report). first ∷ reports) (rest c behind m durations silent g))
+      rw (told, kept, before, after)
+      (ap (λ (told : List Numbers). reportNumbers first ∷ told)
+      (ap (map reportNumbers) (rest c behind m durations silent g) ∙ among-numbers (length durations - 1 - behind) c behind))

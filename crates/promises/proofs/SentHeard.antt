@@ -1,9 +1,10 @@
 -- What `send` answers where demand 3's hypotheses hold: the command that was sent, at the edge that settles it, and nothing besides. It follows from demand 3
--- of the protocol's own decoder by two laws: reports as `onlyAt` lists them come to that answer, and a decoder by number reports as the protocol's own.
+-- of the protocol's own decoder by two laws: reports with the numbers that `onlyAt` lists come to that answer, and a decoder by number reports as the
+-- protocol's own.
 -- Assumes nothing.
 use mathlib.Core.Path.{_≡_, refl, sym, ap, _∙_}
 use mathlib.Core.Bool.{Bool, true, false, cond}
-use mathlib.Core.List.{List, [], _∷_, _++_}
+use mathlib.Core.List.{List, [], _∷_, _++_, map}
 use Prim.Native.Nat.{ℕ, zero, suc, _+_, _-_, _≤_, _<_}
 use native.Mathlib.Nat.{add-zero}
 use native.Mathlib.Omega.{arith}
@@ -11,9 +12,11 @@ use lib.ListN.{length, drop}
 use Rattle.commands.specs.declared.Command.{Command}
 use Rattle.commands.proofs.Laws.{rc6-fits}
 use Rattle.frames.specs.Frames.{bitSet}
+use Rattle.reports.specs.Reports.{Numbers, reportNumbers}
 use Rattle.reports.specs.declared.Report.{Report}
 use Rattle.reports.specs.declared.Report.the-variants as report
 use Rattle.reports.specs.Run.{Edge, runReports, runAfter, alternating}
+use Rattle.reports.proofs.Apart.{all-apart}
 use Rattle.reports.proofs.Run.{after-joined}
 use Rattle.receiver.specs.Decoder.{edgeAfter, reportsOf, decoderAfter}
 use Rattle.receiver.specs.Encoder.{encodeTaken, frameBy}
@@ -26,19 +29,20 @@ use Rattle.promises.specs.Heard.{necReceiver, rc5Receiver, rc6Receiver}
 use Rattle.promises.specs.Send.{wronged, edgesSent, noneYet, notedAll, summaryOf, heardOf, sentOf}
 use Rattle.promises.specs.Send.{Answered, SentHeard, EveryNecSent, EveryRc5Sent, EveryRc6Sent}
 use Rattle.promises.specs.declared.send.Later.{Later}
+use Rattle.promises.proofs.Numbered.{nothings, among, among-numbers}
 use Rattle.promises.proofs.NecHeard.{nec-heard}
 use Rattle.promises.proofs.Rc5Heard.{rc5-heard}
 use Rattle.promises.proofs.Rc6Heard.{rc6-heard}
 
 -- edges that report nothing change nothing but the next edge's number
-quiet-noted : (later : Later) (number n : ℕ) (reports : List Report) → notedAll later number (quiet n ++ reports) ≡ notedAll later (number + n) reports
+quiet-noted : (later : Later) (number n : ℕ) (reports : List Report) → notedAll later number (nothings n ++ reports) ≡ notedAll later (number + n) reports
 unfolding notedAll
 quiet-noted later number zero reports = rw add-zero
 quiet-noted later number (suc n) reports =
     let same : number + 1 + n ≡ number + suc n = omega arith in
     quiet-noted later (number + 1) n reports ∙ ap (λ (k : ℕ). notedAll later k reports) same
 
-quiet-end : (later : Later) (number n : ℕ) → notedAll later number (quiet n) ≡ later
+quiet-end : (later : Later) (number n : ℕ) → notedAll later number (nothings n) ≡ later
 unfolding notedAll
 quiet-end later number zero = refl
 quiet-end later number (suc n) = quiet-end later (number + 1) n
@@ -46,22 +50,26 @@ quiet-end later number (suc n) = quiet-end later (number + 1) n
 -- one command among reports of nothing is what is kept
 only-noted
     : (count settles : ℕ) (command : Command) → 2 ≤ settles
-    → notedAll noneYet 2 (quiet (settles - 2) ++ (report.Command command ∷ quiet (count - settles)))
+    → notedAll noneYet 2 (among (settles - 2) command (count - settles))
     ≡ record { edge = settles; report = report.Command command; others = 0 }
 unfolding notedAll
 only-noted count settles command h =
     let same : 2 + (settles - 2) ≡ settles = omega arith in
-    quiet-noted noneYet 2 (settles - 2) (report.Command command ∷ quiet (count - settles))
+    quiet-noted noneYet 2 (settles - 2) (report.Command command ∷ nothings (count - settles))
     ∙ quiet-end (record { edge = 2 + (settles - 2); report = report.Command command; others = 0 }) (2 + (settles - 2) + 1) (count - settles)
     ∙ rw same
 
 only-answered
-    : (mayReport : Report → Type 0) (count settles : ℕ) (first : Report) (command : Command) (decoder : Decoder) (reports : List Report)
-    → 2 ≤ settles → mayReport first → reports ≡ onlyAt count settles first command → Answered mayReport command settles (summaryOf reports decoder)
+    : (mayReport : Numbers → Type 0) (count settles : ℕ) (first : Numbers) (command : Command) (decoder : Decoder) (reports : List Report)
+    → 2 ≤ settles → mayReport first → map reportNumbers reports ≡ onlyAt count settles first command
+    → Answered mayReport command settles (summaryOf reports decoder)
 unfolding summaryOf
-only-answered mayReport count settles first command decoder reports h may e =
-    rw (e, only-noted count settles command h)
-    (record { first = may; edge = refl; report = refl; told = (refl, refl); others = refl })
+only-answered mayReport count settles first command decoder [] h may e = let z : _≡_ {A = ℕ} 0 1 = cc in absurd (omega arith)
+only-answered mayReport count settles first command decoder (r ∷ reports) h may e =
+    let told : reportNumbers r ≡ first = cc in
+    let numbers : map reportNumbers reports ≡ quiet (settles - 2) ++ (reportNumbers (report.Command command) ∷ quiet (count - settles)) = cc in
+    let rest = all-apart reports (among (settles - 2) command (count - settles)) (numbers ∙ sym (among-numbers (settles - 2) command (count - settles))) in
+    rw (rest, only-noted count settles command h) (record { first = rw told may; edge = refl; report = refl; others = refl })
 
 -- the edge that settles the last bit is not the first
 under : {n : ℕ} → 14 ≤ n → 2 ≤ n
@@ -77,7 +85,7 @@ module _
     (reports : (d : R .Decoder) (edges : List Edge) → reportsOf (of d) edges ≡ runReports (R .report) (R .after) d edges)
     (after : (d : R .Decoder) (edges : List Edge) → decoderAfter (of d) edges ≡ of (runAfter (R .after) d edges)) where
   heard-answered
-      : (mayReport : Report → Type 0) (bound wrong : ℕ) (frame : List ℕ) (command : Command) (settles : ℕ)
+      : (mayReport : Numbers → Type 0) (bound wrong : ℕ) (frame : List ℕ) (command : Command) (settles : ℕ)
       → Heard R mayReport bound wrong frame command settles → 2 ≤ settles
       → (earlier : List Edge) (silence : ℕ) (wrongs : List ℕ) → bound < silence → Near wrong (drop 1 frame) (wronged (drop 1 frame) wrongs)
       → Answered mayReport command settles (heardOf (decoderAfter (of (R .fresh)) earlier) silence frame wrongs)
@@ -86,7 +94,7 @@ module _
       let (first, may, all) = heard earlier silence (wronged (drop 1 frame) wrongs) long near in
       rw (after (R .fresh) earlier)
       (only-answered mayReport (length frame) settles first command _ _ h may
-      (reports (runAfter (R .after) (R .fresh) earlier) (alternating true (silence ∷ wronged (drop 1 frame) wrongs)) ∙ all))
+      (ap (map reportNumbers) (reports (runAfter (R .after) (R .fresh) earlier) (alternating true (silence ∷ wronged (drop 1 frame) wrongs))) ∙ all))
 
 pub nec-sent : EveryNecSent
 unfolding SentHeard sentOf

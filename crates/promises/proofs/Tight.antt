@@ -1,14 +1,14 @@
--- What a proof that a bound is tight needs: durations are near by one computed test, and lists of reports that differ at a place are different.
+-- What a proof that a bound is tight needs: durations are near by one computed test, and lists of numbers that differ in a kind are different.
 -- Assumes nothing.
 use mathlib.Core.Path.{_≡_, ap}
 use mathlib.Core.Bool.{Bool, true, false, _&&_}
 use mathlib.Core.List.{List, [], _∷_}
 use Prim.Native.Nat.{ℕ, _+_}
 use native.Mathlib.Omega.{arith}
-use lib.Dec.{T, leb, leb→le}
+use lib.Dec.{T, leb, eqb, leb→le}
 use lib.ListN.{getD}
-use Rattle.reports.specs.declared.Report.{Report}
-use Rattle.reports.specs.declared.Report.the-variants.{Nothing, Command, Error, Refused}
+use Rattle.reports.specs.Reports.{Numbers, reportNumbers}
+use Rattle.reports.specs.declared.Report.the-variants.{Nothing}
 use Rattle.promises.specs.Heard.{Near, none, more}
 use Rattle.spans.proofs.Places.{both}
 
@@ -27,16 +27,12 @@ is-near wrong (sent ∷ restSent) (came ∷ restCame) t =
     let (high, rest) = both (leb came (sent + wrong)) (isNear wrong restSent restCame) others in
     more (leb→le sent (came + wrong) low) (leb→le came (sent + wrong) high) (is-near wrong restSent restCame rest)
 
-abbrev pub isNothing : Report → Bool
-isNothing Nothing = true
-isNothing (Command command) = false
-isNothing (Error fault) = false
-isNothing (Refused number) = false
+-- nothing is reported at a place
+abbrev pub nothingAt : ℕ → List Numbers → Bool
+nothingAt place told = eqb (getD told place (reportNumbers Nothing) .kind) 0
 
-pub differ
-    : {one two : List Report} (place : ℕ) → isNothing (getD one place Nothing) ≡ false → isNothing (getD two place Nothing) ≡ true
-    → one ≡ two → ⊥
+pub differ : {one two : List Numbers} (place : ℕ) → nothingAt place one ≡ false → nothingAt place two ≡ true → one ≡ two → ⊥
 differ place here there same =
-    let same-there = ap (λ (reports : List Report). isNothing (getD reports place Nothing)) same in
+    let same-there = ap (nothingAt place) same in
     let z : _≡_ {A = ℕ} 0 1 = cc in
     omega arith

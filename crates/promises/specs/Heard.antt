@@ -2,7 +2,7 @@
 use Prim.Native.Nat.{ℕ, _+_, _-_, _≤_, _<_}
 use mathlib.Core.Path.{_≡_}
 use mathlib.Core.Bool.{Bool, true, false, cond}
-use mathlib.Core.List.{List, [], _∷_, _++_}
+use mathlib.Core.List.{List, [], _∷_, _++_, map}
 use lib.ListN.{length, drop, replicate}
 use Rattle.commands.specs.declared.Command.{Command}
 use Rattle.commands.specs.declared.Command.the-variants as command
@@ -10,6 +10,7 @@ use Rattle.commands.specs.declared.nec.NecCommand.{NecCommand}
 use Rattle.commands.specs.declared.rc5.Rc5Command.{Rc5Command}
 use Rattle.commands.specs.declared.rc6.Rc6Command.{Rc6Command}
 use Rattle.frames.specs.Frames.{bitSet}
+use Rattle.reports.specs.Reports.{Numbers, reportNumbers}
 use Rattle.reports.specs.Run.{Edge, runReports, runAfter, alternating}
 use Rattle.reports.specs.declared.Fault.the-variants.{Data}
 use Rattle.reports.specs.declared.Report.{Report}
@@ -38,29 +39,29 @@ pub data Near (wrong : ℕ) : List ℕ → List ℕ → Type 0 where
       → Near wrong restSent restCame → Near wrong (sent ∷ restSent) (came ∷ restCame)
 
 -- edges that report nothing
-abbrev pub quiet : ℕ → List Report
-quiet count = replicate count report.Nothing
+abbrev pub quiet : ℕ → List Numbers
+quiet count = replicate count (reportNumbers report.Nothing)
 
--- "It reports exactly one command": all reports of `count` edges, the command's edge counted from 1
-abbrev pub onlyAt : ℕ → ℕ → Report → Command → List Report
-onlyAt count settles first sent = first ∷ (quiet (settles - 2) ++ (report.Command sent ∷ quiet (count - settles)))
+-- "It reports exactly one command": the numbers of all reports of `count` edges, the command's edge counted from 1
+abbrev pub onlyAt : ℕ → ℕ → Numbers → Command → List Numbers
+onlyAt count settles first sent = first ∷ (quiet (settles - 2) ++ (reportNumbers (report.Command sent) ∷ quiet (count - settles)))
 
 -- "after any earlier edges; a rising edge after a silence (over ..); then the rest of an encoded frame in alternating edges, each wrong by at most ..".
 -- The first edge reports what `mayReport` allows, and the edge `settles` the command
-unfoldable pub Heard : Receiver → (Report → Type 0) → (silence wrong : ℕ) → List ℕ → Command → (settles : ℕ) → Type 0
+unfoldable pub Heard : Receiver → (Numbers → Type 0) → (silence wrong : ℕ) → List ℕ → Command → (settles : ℕ) → Type 0
 Heard receiver mayReport silence wrong frame sent settles =
     (earlier : List Edge) (gap : ℕ) (durations : List ℕ) → silence < gap → Near wrong (drop 1 frame) durations
     → let heard = runAfter (receiver .after) (receiver .fresh) earlier in
-    (first : Report) × (mayReport first)
-    × (runReports (receiver .report) (receiver .after) heard (alternating true (gap ∷ durations)) ≡ onlyAt (length frame) settles first sent)
+    let reports = runReports (receiver .report) (receiver .after) heard (alternating true (gap ∷ durations)) in
+    (first : Numbers) × (mayReport first) × (map reportNumbers reports ≡ onlyAt (length frame) settles first sent)
 
 -- "for NEC the first edge may report an older broken frame's error"
-pub data NothingOrData : Report → Type 0 where
-  nothing : NothingOrData report.Nothing
-  broken : NothingOrData (report.Error Data)
+pub data NothingOrData : Numbers → Type 0 where
+  nothing : NothingOrData (reportNumbers report.Nothing)
+  broken : NothingOrData (reportNumbers (report.Error Data))
 
-pub data Nothing : Report → Type 0 where
-  nothing : Nothing report.Nothing
+pub data Nothing : Numbers → Type 0 where
+  nothing : Nothing (reportNumbers report.Nothing)
 
 -- ---- "at 1 MHz"
 

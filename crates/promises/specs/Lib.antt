@@ -1,4 +1,5 @@
 pub mod Heard
+pub mod Impostors
 pub mod Send
 pub mod Totals
 pub mod Repeat

@@ -3,7 +3,7 @@
 use Prim.Native.Nat.{ℕ, _+_, _^_}
 use mathlib.Core.Path.{_≡_}
 use mathlib.Core.Bool.{Bool, true, false, not, cond, _&&_}
-use mathlib.Core.List.{List, [], _∷_, _++_}
+use mathlib.Core.List.{List, [], _∷_, _++_, map}
 use lib.Dec.{leb, eqb}
 use lib.Bits.{bitOr}
 use lib.ListN.{length}
@@ -12,6 +12,7 @@ use Rattle.commands.specs.Nec.{unpackOf}
 use Rattle.commands.specs.declared.Command.the-variants as command
 use Rattle.commands.specs.declared.nec.NecCommand.{NecCommand}
 use Rattle.frames.specs.Frames.{bitSet}
+use Rattle.reports.specs.Reports.{reportNumbers}
 use Rattle.reports.specs.Run.{Edge}
 use Rattle.reports.specs.declared.Fault.{Fault}
 use Rattle.reports.specs.declared.Report.the-variants as report
@@ -78,7 +79,11 @@ heardAt rate edges = nec.decoderAfter (freshAt rate) edges
 
 -- a command is reported at this edge
 abbrev pub Reported : NecDecoder → Edge → NecCommand → Type 0
-Reported d last c = nec.edgeReport d last ≡ report.Command (command.Nec c)
+Reported d last c = reportNumbers (nec.edgeReport d last) ≡ reportNumbers (report.Command (command.Nec c))
+
+-- an error is reported at this edge
+abbrev pub Failed : NecDecoder → Edge → Fault → Type 0
+Failed d last fault = reportNumbers (nec.edgeReport d last) ≡ reportNumbers (report.Error fault)
 
 -- "a reported repeat's command is read off the bits gathered since the last sync .., whatever became of that frame"
 abbrev pub RepeatCarries : Type 0
@@ -115,7 +120,7 @@ WholeFrameRepeated =
 abbrev pub RepeatFollowsCommand : Type 0
 RepeatFollowsCommand =
     (rate : ℕ) (earlier between : List Edge) (end last : Edge) (sent c : NecCommand) → Reported (heardAt rate earlier) end sent
-    → nec.reportsOf (nec.edgeAfter (heardAt rate earlier) end) between ≡ quiet (length between)
+    → map reportNumbers (nec.reportsOf (nec.edgeAfter (heardAt rate earlier) end) between) ≡ quiet (length between)
     → Reported (heardAt rate (earlier ++ (end ∷ between))) last c → c .repeat ≡ true
     → c ≡ record { addr = sent .addr; cmd = sent .cmd; repeat = true }
 
@@ -123,7 +128,7 @@ RepeatFollowsCommand =
 abbrev pub BrokenFrameRepeated : Type 0
 BrokenFrameRepeated =
     (rate : ℕ) (earlier since : List Edge) (wrong last : Edge) (fault : Fault) (c : NecCommand)
-    → nec.edgeReport (heardAt rate earlier) wrong ≡ report.Error fault
+    → Failed (heardAt rate earlier) wrong fault
     → noneOpens (nec.edgeAfter (heardAt rate earlier) wrong) since ≡ true
     → Reported (heardAt rate (earlier ++ (wrong ∷ since))) last c
     → c ≡ unpackOf (gathered (freshAt rate) earlier) true
@@ -143,7 +148,7 @@ NoBitLost =
 -- an error, and the reset that follows it, leave the bits as they are
 abbrev pub ErrorClearsNothing : Type 0
 ErrorClearsNothing =
-    (d : NecDecoder) (edge : Edge) (fault : Fault) → nec.edgeReport d edge ≡ report.Error fault
+    (d : NecDecoder) (edge : Edge) (fault : Fault) → Failed d edge fault
     → nec.edgeAfter d edge .memory .bits ≡ d .memory .bits
 
 -- so do a repeat that is reported and its reset; the last bit of a frame is added as each other is

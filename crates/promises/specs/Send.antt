@@ -12,8 +12,7 @@ use Rattle.commands.specs.declared.rc5.Rc5Command.{Rc5Command}
 use Rattle.commands.specs.declared.rc6.Rc6Command.{Rc6Command}
 use Rattle.frames.specs.Frames.{bitSet}
 use Rattle.frames.specs.Filled.{filled}
-use Rattle.commands.specs.Command.{protocolOf, valuesOf}
-use Rattle.reports.specs.Reports.{reportNumber, reportValues}
+use Rattle.reports.specs.Reports.{Numbers, reportNumbers}
 use Rattle.reports.specs.Run.{Edge, alternating}
 use Rattle.reports.specs.declared.Report.{Report}
 use Rattle.reports.specs.declared.Report.the-variants as report
@@ -96,12 +95,10 @@ wrongsOf wrong = filled (wrongAt wrong) 0 (replicate 66 0)
 -- ---- "A frame that is sent is heard", of the call
 
 -- what is answered where the command is heard: the first edge reports what `mayReport` allows, the edge `settles` the command, and no other edge anything
-pub record Answered (mayReport : Report → Type 0) (command : Command) (settles : ℕ) (answer : Sent) : Type 0 where
-  pub first : mayReport (answer .first)
+pub record Answered (mayReport : Numbers → Type 0) (command : Command) (settles : ℕ) (answer : Sent) : Type 0 where
+  pub first : mayReport (reportNumbers (answer .first))
   pub edge : answer .edge ≡ settles
-  pub report : answer .report ≡ report.Command command
-  -- the same in document 01's numbers: no refusal; the protocol's number and the command's values
-  pub told : (reportNumber (answer .report) ≡ 0) × (reportValues (answer .report) ≡ protocolOf command ∷ valuesOf command)
+  pub report : reportNumbers (answer .report) ≡ reportNumbers (report.Command command)
   pub others : answer .others ≡ 0
 
 -- the bounds by protocol number: "a silence (over 14,445 ticks NEC, 1,955 RC5, 2,983 RC6)", "wrong by at most 28 (NEC), 106 (RC5), 53 (RC6)"; 0 where no frame is sent
@@ -112,7 +109,7 @@ abbrev pub mostWrong : ℕ → ℕ
 mostWrong protocol = getD (0 ∷ 28 ∷ 106 ∷ 53 ∷ []) protocol 0
 
 -- the decoder was fresh and then had any earlier edges; silence and wrongs are within their bounds
-unfoldable pub SentHeard : (protocol addr cmd start : ℕ) → (toggle : Bool) → (Report → Type 0) → Command → (settles : ℕ) → Type 0
+unfoldable pub SentHeard : (protocol addr cmd start : ℕ) → (toggle : Bool) → (Numbers → Type 0) → Command → (settles : ℕ) → Type 0
 SentHeard protocol addr cmd start toggle mayReport command settles =
     let frame = drop 1 (frameBy protocol 1000000 addr cmd start toggle) in
     (earlier : List Edge) (silence : ℕ) (wrongs : List ℕ) → leastSilence protocol ≤ silence → Near (mostWrong protocol) frame (wronged frame wrongs)

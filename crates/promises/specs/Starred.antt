@@ -6,22 +6,18 @@ use mathlib.Core.Bool.{Bool, false}
 use mathlib.Core.List.{List, [], _∷_, _++_}
 use lib.ListN.{length, replicate}
 use Rattle.spans.specs.Spans.{spansOf}
-use Rattle.spans.specs.Lookup.{lookupOf}
-use Rattle.spans.specs.declared.Found.{Found}
-use Rattle.spans.specs.declared.Found.the-variants.{At, Nothing}
+use Rattle.spans.specs.Lookup.{none, lookupOf, placeOf}
 use Rattle.commands.specs.Nec.{packOf}
 use Rattle.commands.specs.declared.rc5.Rc5Command.{Rc5Command}
 use Rattle.frames.specs.Frames.{encodedOf, leftOf, encodedNumber, encodedLength}
-use Rattle.reports.specs.declared.Fault.the-variants.{Data}
-use Rattle.reports.specs.declared.Report.the-variants as report
 use Rattle.nec.specs.Decoder.{zeroBit}
 use Rattle.rc5_encoder.specs.Encoder.{rc5Frame}
 use Rattle.promises.specs.Heard.{quiet}
-use Rattle.promises.specs.Totals.{Tells, held}
+use Rattle.promises.specs.Totals.{errorData, Tells, held}
 
--- what a duration or a pair total reads at 1 MHz
-abbrev pub reads : ℕ → ℕ → Found
-reads protocol duration = lookupOf (spansOf protocol 1000000 .spans) duration
+-- the place that a duration or a pair total reads at 1 MHz
+abbrev pub reads : ℕ → ℕ → ℕ
+reads protocol duration = placeOf (lookupOf (spansOf protocol 1000000 .spans) duration)
 
 abbrev pub nec : ℕ
 nec = 1
@@ -32,15 +28,15 @@ rc5 = 2
 abbrev pub rc6 : ℕ
 rc6 = 3
 
-abbrev pub invalid : Found
-invalid = Nothing
+abbrev pub invalid : ℕ
+invalid = none
 
-abbrev pub zero : Found
-zero = At zeroBit
+abbrev pub zero : ℕ
+zero = zeroBit
 
 -- "ticks are place + 1"
-abbrev pub ticks : ℕ → Found
-ticks count = At (count - 1)
+abbrev pub ticks : ℕ → ℕ
+ticks count = count - 1
 
 -- "RC5 address 0, command 0, toggle clear, start 3"
 abbrev pub starredRc5 : Rc5Command
@@ -73,4 +69,4 @@ pub record Starred : Type 0 where
   pub rc5-room-25-untouched : (lent : List ℕ) → length lent ≡ 25 → leftOf 1000000 lent starredFrame ≡ lent
   -- "pair totals 13500, eight of 2250, 5000, 11250. Error Data at 5000; at 11250 address 255, command 0, repeat"
   pub nec-broken-then-repeat
-      : Tells (13500 ∷ (replicate 8 2250 ++ (5000 ∷ 11250 ∷ []))) (quiet 9 ++ (report.Error Data ∷ held 255 0 ∷ []))
+      : Tells (13500 ∷ (replicate 8 2250 ++ (5000 ∷ 11250 ∷ []))) (quiet 9 ++ (errorData ∷ held 255 0 ∷ []))

@@ -2,34 +2,43 @@
 use Prim.Native.Nat.{ℕ, suc, _+_}
 use mathlib.Core.Path.{_≡_}
 use mathlib.Core.Bool.{true, false}
-use mathlib.Core.List.{List, [], _∷_, _++_}
+use mathlib.Core.List.{List, [], _∷_, _++_, map}
 use lib.ListN.{take, drop}
 use Rattle.commands.specs.declared.Command.the-variants as command
 use Rattle.commands.specs.declared.nec.NecCommand.{NecCommand}
+use Rattle.reports.specs.Reports.{Numbers, reportNumbers}
 use Rattle.reports.specs.Run.{Pair, totals, edgesOf}
-use Rattle.reports.specs.declared.Report.{Report}
+use Rattle.reports.specs.declared.Fault.the-variants.{Data}
 use Rattle.reports.specs.declared.Report.the-variants as report
 use Rattle.nec.specs.Decoder as nec
 use Rattle.nec_encoder.specs.Encoder.{necFrame}
 
--- a report for each pair, at its rising edge; the falling edge before it reports nothing
-unfoldable pub atPairs : List Report → List Report
-atPairs [] = []
-atPairs (told ∷ reports) = report.Nothing ∷ told ∷ atPairs reports
+-- what is reported, in numbers
+abbrev pub nothing : Numbers
+nothing = reportNumbers report.Nothing
 
-unfoldable pub Tells : List ℕ → List Report → Type 0
-Tells pulses reports =
-    (pairs : List Pair) → totals pairs ≡ pulses → nec.reportsOf (nec.newAt 1000000 .decoder) (edgesOf pairs) ≡ atPairs reports
+abbrev pub errorData : Numbers
+errorData = reportNumbers (report.Error Data)
+
+-- a report for each pair, at its rising edge; the falling edge before it reports nothing
+unfoldable pub atPairs : List Numbers → List Numbers
+atPairs [] = []
+atPairs (told ∷ rest) = nothing ∷ told ∷ atPairs rest
+
+unfoldable pub Tells : List ℕ → List Numbers → Type 0
+Tells pulses told =
+    (pairs : List Pair) → totals pairs ≡ pulses
+    → map reportNumbers (nec.reportsOf (nec.newAt 1000000 .decoder) (edgesOf pairs)) ≡ atPairs told
 
 abbrev pub key : ℕ → ℕ → NecCommand
 key addr cmd = record { addr = addr; cmd = cmd; repeat = false }
 
 -- what is reported of a key: it was pressed, it is held
-abbrev pub pressed : ℕ → ℕ → Report
-pressed addr cmd = report.Command (command.Nec (key addr cmd))
+abbrev pub pressed : ℕ → ℕ → Numbers
+pressed addr cmd = reportNumbers (report.Command (command.Nec (key addr cmd)))
 
-abbrev pub held : ℕ → ℕ → Report
-held addr cmd = report.Command (command.Nec (record { addr = addr; cmd = cmd; repeat = true }))
+abbrev pub held : ℕ → ℕ → Numbers
+held addr cmd = reportNumbers (report.Command (command.Nec (record { addr = addr; cmd = cmd; repeat = true })))
 
 unfoldable pub paired : List ℕ → List ℕ
 paired [] = []

@@ -1,0 +1,68 @@
+-- The numbers of what `encode`, `spans_of` and the lookup answer tell its cases apart: each answer is read back from its numbers. By cases on the tests; a place
+-- that is found is below 8, which stands for none, by induction on the places. Assumes nothing.
+use mathlib.Core.Path.{_≡_, refl}
+use mathlib.Core.Bool.{cond}
+use mathlib.Core.List.{List}
+use Prim.Native.Nat.{ℕ, zero, suc, _+_}
+use native.Mathlib.Omega.{arith}
+use lib.Dec.{eqb}
+use borrow.Author.Tests.{ne-eqb}
+use Rattle.spans.specs.Spans.{protocolTaken, rateTaken, spansOf, refusalNumber}
+use Rattle.spans.specs.Lookup.{holds, lowestFrom, lookupIn, none, placeOf}
+use Rattle.spans.specs.declared.Answer.{Answer}
+use Rattle.spans.specs.declared.Answer.the-variants as answer
+use Rattle.spans.specs.declared.Found.{Found}
+use Rattle.spans.specs.declared.Found.the-variants.{At, Nothing}
+use Rattle.spans.specs.declared.SpansAnswer.{SpansAnswer}
+use Rattle.frames.specs.Frames.{tooShort, encodedOf, encodedNumber, encodedLength}
+use Rattle.frames.specs.declared.Encoded.{Encoded}
+use Rattle.frames.specs.declared.Encoded.the-variants.{Wrote, Refused, Short}
+use Rattle.receiver.specs.Encoder.{encodeTaken, encodedBy}
+use Rattle.reports.proofs.Either.{either}
+
+-- ---- encode: 0 and the count written; 3 and the length needed; another refusal
+
+abbrev pub encodedFrom : ℕ → ℕ → Encoded
+encodedFrom number length = cond (eqb number 0) (Wrote length) (cond (eqb number 3) (Short length) (Refused number))
+
+abbrev EncodedBack : Encoded → Type 0
+EncodedBack e = encodedFrom (encodedNumber e) (encodedLength e) ≡ e
+
+pub encoded-back
+    : (protocol rate : ℕ) (lent frame : List ℕ)
+    → encodedFrom (encodedNumber (encodedBy protocol rate lent frame)) (encodedLength (encodedBy protocol rate lent frame))
+    ≡ encodedBy protocol rate lent frame
+unfolding encodedOf
+encoded-back protocol rate lent frame =
+    either EncodedBack (encodeTaken protocol)
+    (either EncodedBack (rateTaken rate) (either EncodedBack (tooShort lent frame) refl refl) refl) refl
+
+-- ---- spans_of: 0 where nothing is refused
+
+abbrev pub answerFrom : ℕ → Answer
+answerFrom number = cond (eqb number 0) answer.Taken (answer.Refused number)
+
+abbrev AnswerBack : SpansAnswer → Type 0
+AnswerBack a = answerFrom (refusalNumber (a .answer)) ≡ a .answer
+
+pub answer-back : (protocol rate : ℕ) → answerFrom (refusalNumber (spansOf protocol rate .answer)) ≡ spansOf protocol rate .answer
+unfolding spansOf
+answer-back protocol rate = either AnswerBack (protocolTaken protocol) (either AnswerBack (rateTaken rate) refl refl) refl
+
+-- ---- the lookup: 8 where no span holds the duration
+
+abbrev pub foundFrom : ℕ → Found
+foundFrom place = cond (eqb place none) Nothing (At place)
+
+abbrev FoundBack : Found → Type 0
+FoundBack f = foundFrom (placeOf f) ≡ f
+
+module _ (low high : List ℕ) (duration : ℕ) where
+  lowest-back : (left place : ℕ) → place + left ≡ 8 → FoundBack (lowestFrom low high duration left place)
+  unfolding lowestFrom
+  lowest-back zero place e = refl
+  lowest-back (suc left) place e =
+      either FoundBack (holds low high duration place) (rw (ne-eqb place 8 (λ same. omega arith))) (lowest-back left (place + 1) (omega arith))
+
+  pub found-back : foundFrom (placeOf (lookupIn low high duration)) ≡ lookupIn low high duration
+  found-back = lowest-back 8 0 refl

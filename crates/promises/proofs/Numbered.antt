@@ -1,0 +1,28 @@
+-- Reports of nothing with one command among them, and their numbers: how the proofs, which speak of reports, meet the statements, which speak of numbers.
+-- Assumes nothing.
+use mathlib.Core.Path.{_≡_, refl, ap, _∙_}
+use mathlib.Core.List.{List, _∷_, _++_, map, map-append}
+use Prim.Native.Nat.{ℕ, zero, suc}
+use lib.ListN.{replicate}
+use Rattle.commands.specs.declared.Command.{Command}
+use Rattle.reports.specs.Reports.{Numbers, reportNumbers}
+use Rattle.reports.specs.declared.Report.{Report}
+use Rattle.reports.specs.declared.Report.the-variants as report
+use Rattle.promises.specs.Heard.{quiet}
+
+abbrev pub nothings : ℕ → List Report
+nothings count = replicate count report.Nothing
+
+abbrev pub among : ℕ → Command → ℕ → List Report
+among before command behind = nothings before ++ (report.Command command ∷ nothings behind)
+
+nothings-numbers : (count : ℕ) → map reportNumbers (nothings count) ≡ quiet count
+nothings-numbers zero = refl
+nothings-numbers (suc count) = ap (λ (rest : List Numbers). reportNumbers report.Nothing ∷ rest) (nothings-numbers count)
+
+pub among-numbers
+    : (before : ℕ) (command : Command) (behind : ℕ)
+    → map reportNumbers (among before command behind) ≡ quiet before ++ (reportNumbers (report.Command command) ∷ quiet behind)
+among-numbers before command behind =
+    map-append reportNumbers (nothings before) (report.Command command ∷ nothings behind)
+    ∙ rw (nothings-numbers before, nothings-numbers behind)
