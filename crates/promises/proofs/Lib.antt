@@ -13,6 +13,7 @@ pub mod Rc6Tight
 pub mod RepeatPulse
 pub mod RepeatEdge
 pub mod Repeat
+pub mod HeldKey
 pub mod RepeatShown
 pub mod Starred
 pub mod Feeding

@@ -2,5 +2,6 @@ pub mod Heard
 pub mod Send
 pub mod Totals
 pub mod Repeat
+pub mod HeldKey
 pub mod RepeatShown
 pub mod Starred
