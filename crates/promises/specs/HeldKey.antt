@@ -68,22 +68,22 @@ wholeAt whole (report.Refused number) = whole
 abbrev pub lastWhole : List Report → Held
 lastWhole reports = foldl wholeAt none reports
 
--- whatever it acts on has the address and command of the last whole command that was reported: itself, or the one before the repeats
+-- whatever it acts on has the address and command of the last whole command that was reported: itself, or the one that it repeats
 abbrev pub ActsOnWhole : Type 0
 ActsOnWhole =
     (rate : ℕ) (edges : List Edge) (last : Edge) (c : NecCommand) → Reported (heardAt rate edges) last c
     → acts (heldAfter (nec.reportsOf (freshAt rate) edges)) (c .repeat) ≡ true
     → lastWhole (nec.reportsOf (freshAt rate) (edges ++ (last ∷ []))) ≡ holds (c .addr) (c .cmd)
 
--- ---- A sync that is lost, of any decoder
+-- ---- A sync that is lost
 
--- while no frame is open and none is opened, nothing is let go of: no error is reported
+-- while no frame is open and none is opened, no error is reported: whatever is held stays so. Of any decoder
 abbrev pub LostSyncLetsGoOfNothing : Type 0
 LostSyncLetsGoOfNothing =
     (d : NecDecoder) (edges : List Edge) (held : Held) → d .memory .state ≡ Init → noneOpens d edges ≡ true
     → foldl heldAt held (nec.reportsOf d edges) ≡ held
 
--- while an older frame is open, the first pulse that is neither zero nor one reports that frame's error
+-- while an older frame is open, a pulse that is neither zero nor one reports error Data of that frame
 abbrev pub OlderFrameBreaks : Type 0
 OlderFrameBreaks =
     (rate : ℕ) (earlier : List Edge) (pulse : Edge) (n : ℕ) → heardAt rate earlier .memory .state ≡ Receiving n → pulse .rising ≡ true
