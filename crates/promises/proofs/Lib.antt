@@ -16,6 +16,7 @@ pub mod Impostors
 pub mod RepeatPulse
 pub mod RepeatEdge
 pub mod Repeat
+pub mod HeldKey
 pub mod RepeatShown
 pub mod Starred
 pub mod Feeding

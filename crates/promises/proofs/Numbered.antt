@@ -14,15 +14,15 @@ abbrev pub nothings : ℕ → List Report
 nothings count = replicate count report.Nothing
 
 abbrev pub among : ℕ → Command → ℕ → List Report
-among before command behind = nothings before ++ (report.Command command ∷ nothings behind)
+among before command later = nothings before ++ (report.Command command ∷ nothings later)
 
-nothings-numbers : (count : ℕ) → map reportNumbers (nothings count) ≡ quiet count
+pub nothings-numbers : (count : ℕ) → map reportNumbers (nothings count) ≡ quiet count
 nothings-numbers zero = refl
 nothings-numbers (suc count) = ap (λ (rest : List Numbers). reportNumbers report.Nothing ∷ rest) (nothings-numbers count)
 
 pub among-numbers
-    : (before : ℕ) (command : Command) (behind : ℕ)
-    → map reportNumbers (among before command behind) ≡ quiet before ++ (reportNumbers (report.Command command) ∷ quiet behind)
-among-numbers before command behind =
-    map-append reportNumbers (nothings before) (report.Command command ∷ nothings behind)
-    ∙ rw (nothings-numbers before, nothings-numbers behind)
+    : (before : ℕ) (command : Command) (later : ℕ)
+    → map reportNumbers (among before command later) ≡ quiet before ++ (reportNumbers (report.Command command) ∷ quiet later)
+among-numbers before command later =
+    map-append reportNumbers (nothings before) (report.Command command ∷ nothings later)
+    ∙ rw (nothings-numbers before, nothings-numbers later)

@@ -2,26 +2,20 @@
 -- the decoder holds, by induction on the edges, and a repeat is read off that. From Init, and with no sync, no bit is added. Assumes nothing.
 use mathlib.Core.Path.{_≡_, refl, sym, ap, _∙_}
 use mathlib.Core.Bool.{Bool, true, false, not, _&&_}
-use mathlib.Core.List.{List, [], _∷_, _++_, map}
+use mathlib.Core.List.{List, [], _∷_, _++_}
 use Prim.Native.Nat.{ℕ}
-use lib.ListN.{length}
 use borrow.Author.Tests.{not-true}
 use Rattle.commands.specs.Nec.{unpackOf}
 use Rattle.commands.specs.declared.nec.NecCommand.{NecCommand}
-use Rattle.reports.specs.Reports.{reportNumbers}
-use Rattle.reports.specs.Run.{Edge, runAfter, runReports}
-use Rattle.reports.specs.declared.Report.the-variants as report
-use Rattle.reports.proofs.Apart.{reports-apart}
+use Rattle.reports.specs.Run.{Edge, runAfter}
 use Rattle.reports.proofs.Run.{after-joined, after-keeps}
 use Rattle.nec.specs.Decoder as nec
 use Rattle.nec.specs.declared.decoder.NecDecoder.{NecDecoder}
 use Rattle.nec.specs.declared.decoder.NecState.the-variants.{Init}
 use Rattle.promises.specs.Repeat.{opens, gatheredFrom, noneOpens, freshAt, heardAt, Reported, syncedAt}
-use Rattle.promises.specs.Heard.{quiet}
-use Rattle.promises.specs.Repeat.{RepeatCarries, RepeatCarriesSince, ZerosWithoutSync, WholeFrameRepeated, RepeatFollowsCommand, BrokenFrameRepeated}
+use Rattle.promises.specs.Repeat.{RepeatCarries, RepeatCarriesSince, ZerosWithoutSync, WholeFrameRepeated, BrokenFrameRepeated}
 use Rattle.promises.proofs.RepeatEdge.{only-sync-clears, sync-forgets, error-clears-nothing, error-back, command-read, repeat-read}
-use Rattle.promises.proofs.RepeatEdge.{stays, keeps, init-repeats, receives, no-repeat}
-use Rattle.promises.proofs.RepeatPulse.{receiving}
+use Rattle.promises.proofs.RepeatEdge.{stays, keeps, init-repeats}
 
 -- ---- whose bits
 
@@ -40,7 +34,7 @@ spans-kept : (rate : ℕ) (edges : List Edge) → heardAt rate edges .spans ≡ 
 spans-kept rate edges = after-keeps nec.edgeAfter (λ d. d .spans ≡ freshAt rate .spans) (λ d edge h. h) (freshAt rate) edges refl
 
 -- edges, one edge, and edges
-heard-joined
+pub heard-joined
     : (rate : ℕ) (earlier since : List Edge) (edge : Edge)
     → heardAt rate (earlier ++ (edge ∷ since)) ≡ nec.decoderAfter (nec.edgeAfter (heardAt rate earlier) edge) since
 unfolding runAfter
@@ -62,7 +56,7 @@ repeat-carries-since rate earlier since sync last c opened said again =
 
 -- ---- while no sync opens: Init stays, and no bit is added
 
-both : (x y : Bool) → (x && y) ≡ true → (x ≡ true) × (y ≡ true)
+pub both : (x y : Bool) → (x && y) ≡ true → (x ≡ true) × (y ≡ true)
 both true y h = (refl, h)
 both false y h = (h, cc)
 
@@ -103,52 +97,3 @@ broken-frame-repeated rate earlier since wrong last fault c breaks none said =
     let before = heardAt rate earlier in
     idle-read (nec.edgeAfter before wrong) since last c (error-back before wrong fault breaks) none (rw (heard-joined rate earlier since wrong) at said)
     ∙ ap (λ (bits : ℕ). unpackOf bits true) (error-clears-nothing before wrong fault breaks ∙ gathered-held (freshAt rate) earlier)
-
--- ---- with nothing reported between: a sync that opened would go on receiving, and no repeat could come
-
-abbrev Silent : NecDecoder → List Edge → Type 0
-Silent d edges = map reportNumbers (nec.reportsOf d edges) ≡ quiet (length edges)
-
-silent-parts
-    : (d : NecDecoder) (edge : Edge) (edges : List Edge) → Silent d (edge ∷ edges)
-    → (nec.edgeReport d edge ≡ report.Nothing) × Silent (nec.edgeAfter d edge) edges
-unfolding runReports
-silent-parts d edge edges h = (reports-apart (nec.edgeReport d edge) report.Nothing (cc), cc)
-
-receiving-on
-    : (d : NecDecoder) (edges : List Edge) → receiving (d .memory .state) ≡ true → Silent d edges
-    → receiving (nec.decoderAfter d edges .memory .state) ≡ true
-unfolding runAfter
-receiving-on d [] frame h = frame
-receiving-on d (edge ∷ edges) frame h =
-    let (first, rest) = silent-parts d edge edges h in
-    receiving-on (nec.edgeAfter d edge) edges (receives d edge frame first) rest
-
-first-closed
-    : (d : NecDecoder) (edge : Edge) (edges : List Edge) (last : Edge) (c : NecCommand) → Silent (nec.edgeAfter d edge) edges
-    → Reported (nec.decoderAfter (nec.edgeAfter d edge) edges) last c → c .repeat ≡ true → opens d edge ≡ false
-first-closed d edge edges last c silent said again = go (opens d edge) refl
-  where
-    go : (test : Bool) → opens d edge ≡ test → test ≡ false
-    go true opened =
-        let after = nec.edgeAfter d edge in
-        let frame = ap (λ (e : NecDecoder). receiving (e .memory .state)) (sync-forgets d edge opened .1) in
-        sym again ∙ no-repeat (nec.decoderAfter after edges) last (receiving-on after edges frame silent) c said
-    go false closed = refl
-
-none-opened
-    : (d : NecDecoder) (edges : List Edge) (last : Edge) (c : NecCommand) → d .memory .state ≡ Init → Silent d edges
-    → Reported (nec.decoderAfter d edges) last c → c .repeat ≡ true → noneOpens d edges ≡ true
-unfolding runAfter noneOpens
-none-opened d [] last c init silent said again = refl
-none-opened d (edge ∷ edges) last c init silent said again =
-    let rest = silent-parts d edge edges silent .1 in
-    let closed = first-closed d edge edges last c rest said again in
-    rw closed (none-opened (nec.edgeAfter d edge) edges last c (stays d edge init closed) rest said again)
-
-pub repeat-follows-command : RepeatFollowsCommand
-repeat-follows-command rate earlier between end last sent c ends silent said again =
-    let d = nec.edgeAfter (heardAt rate earlier) end in
-    let init = command-read (heardAt rate earlier) end sent ends .1 in
-    let none = none-opened d between last c init silent (rw (heard-joined rate earlier between end) at said) again in
-    whole-frame-repeated rate earlier between end last sent c ends none said

@@ -192,10 +192,10 @@ unfolding taken
 none-taken d edge init = either (λ (bit : ℕ). bit ≡ 0) (edge .rising) (rw init) refl
 
 module _ (d : NecDecoder) (edge : Edge) (init : d .memory .state ≡ Init) (none : opens d edge ≡ false) where
-  within : nec.pastEnd (d .memory .state) ≡ false
+  pub within : nec.pastEnd (d .memory .state) ≡ false
   within = rw init
 
-  waits : Waits (next d edge)
+  pub waits : Waits (next d edge)
   unfolding opens
   waits = at-waiting (d .memory .state) (reads d edge) (d .memory .bits) (edge .duration) (edge .rising) init none
 

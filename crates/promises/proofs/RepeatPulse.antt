@@ -103,7 +103,7 @@ ended RepeatDone = true
 ended (Error fault) = true
 
 -- what Init leads to with no sync
-abbrev waiting : NecState → Bool
+abbrev pub waiting : NecState → Bool
 waiting Init = true
 waiting (Receiving n) = false
 waiting Done = false

@@ -3,5 +3,6 @@ pub mod Impostors
 pub mod Send
 pub mod Totals
 pub mod Repeat
+pub mod HeldKey
 pub mod RepeatShown
 pub mod Starred
