@@ -79,7 +79,7 @@ fn from_init(place: u32, bits: u32) -> NecMemory
         0 => NecMemory {
             state: NecState::Receiving(0),
             bits: 0,
-            saved: 0,
+            saved: 0, // cleared: only SBP keeps it
         },
         // repeat
         1 => NecMemory {
