@@ -10,11 +10,11 @@ use lib.ListN.{length, replicate}
 use Rattle.reports.specs.declared.Report.{Report}
 use Rattle.reports.specs.declared.Report.the-variants as report
 use Rattle.receiver.specs.Decoder.{pastEnd}
-use Rattle.polled.specs.Polled.{ticked, runLength, keptAt, pollRefused, pollUnchanged, pollChanged, pollOf, atUnchanged, atChange, pollReports, pollAfter, idled}
+use Rattle.polled.specs.Polled.{ticked, runLength, keptAt, pollRefused, pollUnchanged, pollChanged, pollOf, pollReports, pollAfter, idled}
+use Rattle.polled.specs.PolledSteps.{partOf, stepOf}
 use Rattle.polled.specs.declared.Polled.{Polled}
 use Rattle.polled.specs.declared.PolledTotal.{PolledTotal}
-use Rattle.polled.specs.declared.Unchanged.{Unchanged}
-use Rattle.polled.specs.declared.Changed.{Changed}
+use Rattle.polled.specs.declared.Stepped.{Stepped}
 
 -- ---- one poll
 
@@ -34,20 +34,6 @@ pub changed
 unfolding pollOf
 changed p level within other = rw (within, other)
 
--- a poll of an unchanged level, from what it reads alone
-pub level-unchanged
-    : (p : Polled) (level : Bool) → Bool·beq (p .level) level ≡ true
-    → (let u = atUnchanged (p .decoder .memory) (p .clock) in pollOf p level ≡ keptAt p (u .report) (u .clock))
-unfolding pollOf
-level-unchanged p level same = rw same (either (pastEnd (p .decoder .memory)))
-  where
-    either
-        : (past : Bool)
-        → (let u = cond {A = Unchanged} past (record { report = report.Refused 4; clock = p .clock }) (record { report = report.Nothing; clock = ticked (p .clock) }) in
-        cond past (pollRefused p) (pollUnchanged p) ≡ keptAt p (u .report) (u .clock))
-    either true = refl
-    either false = refl
-
 -- no poll changes the spans
 pub spans-kept : (p : Polled) (level : Bool) → pollOf p level .receiver .decoder .spans ≡ p .decoder .spans
 unfolding pollOf
@@ -58,19 +44,25 @@ spans-kept p level = each (pastEnd (p .decoder .memory)) (Bool·beq (p .level) l
     each false true = refl
     each false false = refl
 
--- what a change stores: all but the spans
-abbrev pub moved : Polled → Bool → Changed → PolledTotal
-moved p level t =
+-- a record with all but its spans from a step
+abbrev pub stored : Polled → Stepped → PolledTotal
+stored p s =
     record {
-      report = t .report;
-      receiver = record { decoder = record { spans = p .decoder .spans; memory = t .memory }; clock = t .clock; edge = t .clock; level = level };
+      report = s .report;
+      receiver = record { decoder = record { spans = p .decoder .spans; memory = s .memory }; clock = s .clock; edge = s .edge; level = s .level };
     }
 
--- a change that is not refused, from what it reads alone
-pub level-changed
-    : (p : Polled) (level : Bool) → pastEnd (p .decoder .memory) ≡ false → Bool·beq (p .level) level ≡ false
-    → moved p level (atChange (p .decoder) (p .clock) (p .edge) level) ≡ pollOf p level
-level-changed p level within other = sym (changed p level within other)
+-- is what the poll gives
+pub step-stored : (p : Polled) (level : Bool) → stored p (stepOf p level) ≡ pollOf p level
+unfolding pollOf
+step-stored p level = each (pastEnd (p .decoder .memory)) (Bool·beq (p .level) level)
+  where
+    each
+        : (past same : Bool)
+        → (let total = cond past (pollRefused p) (cond same (pollUnchanged p) (pollChanged p level)) in stored p (partOf total) ≡ total)
+    each true same = refl
+    each false true = refl
+    each false false = refl
 
 -- the run length is the one number below 2^32 that takes the last edge to the clock
 pub run-length : (run clock edge : ℕ) → run < 2 ^ 32 → edge < 2 ^ 32 → (run + edge) % 2 ^ 32 ≡ clock → run ≡ runLength clock edge

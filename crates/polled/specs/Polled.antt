@@ -5,13 +5,9 @@ use mathlib.Core.List.{List, [], _∷_}
 use Rattle.reports.specs.declared.Report.{Report}
 use Rattle.reports.specs.declared.Report.the-variants as report
 use Rattle.receiver.specs.Decoder.{pastEnd, newAt, eventTotal}
-use Rattle.receiver.specs.declared.decoder.Decoder.{Decoder}
-use Rattle.receiver.specs.declared.decoder.Memory.{Memory}
 use Rattle.polled.specs.declared.Polled.{Polled}
 use Rattle.polled.specs.declared.PolledMade.{PolledMade}
 use Rattle.polled.specs.declared.PolledTotal.{PolledTotal}
-use Rattle.polled.specs.declared.Unchanged.{Unchanged}
-use Rattle.polled.specs.declared.Changed.{Changed}
 
 -- "Clock, last edge time and last level start at 0, 0, low"; refusals 2, then 1
 abbrev pub polledAt : ℕ → ℕ → PolledMade
@@ -54,18 +50,6 @@ unfoldable pub pollOf : Polled → Bool → PolledTotal
 pollOf p level =
     cond (pastEnd (p .decoder .memory)) (pollRefused p)
     (cond (Bool·beq (p .level) level) (pollUnchanged p) (pollChanged p level))
-
--- the same for an unchanged level, from what it reads alone
-abbrev pub atUnchanged : Memory → ℕ → Unchanged
-atUnchanged memory clock =
-    cond (pastEnd memory) (record { report = report.Refused 4; clock = clock }) (record { report = report.Nothing; clock = ticked clock })
-
--- and for a change that is not refused
-abbrev pub atChange : Decoder → ℕ → ℕ → Bool → Changed
-atChange decoder clock edge level =
-    let after = ticked clock in
-    let total = eventTotal decoder level (runLength after edge) in
-    record { report = total .report; memory = total .decoder .memory; clock = after }
 
 -- a run of polls: all reports, one a level
 unfoldable pub pollReports : Polled → List Bool → List Report

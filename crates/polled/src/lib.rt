@@ -1,11 +1,13 @@
-// Document 01, "The polled receiver": one poll by value, and the same over the one record that the caller keeps and lends.
+// Document 01, "The polled receiver". One poll is `step`, by value; `poll_by_value` and `poll`, which is lent the one record that the caller keeps, are thin over it.
 use receiver::decoder::Decoder;
 use receiver::decoder::Memory;
 use receiver::decoder::past_end;
+use receiver::decoder::total_in;
 use reports::Report;
 use spans::Answer;
 ghost use mathlib.Core.Path.{_≡_};
-ghost use Rattle.polled.specs.Polled.{polledAt, keptAt, pollOf, atUnchanged, atChange};
+ghost use Rattle.polled.specs.Polled.{polledAt, pollOf};
+ghost use Rattle.polled.specs.PolledSteps.{stepOf};
 
 // The decoder, the clock, the time of the last edge and the last level.
 pub struct Polled {
@@ -25,17 +27,13 @@ pub struct PolledTotal {
     pub receiver: Polled,
 }
 
-// What a poll of an unchanged level gives.
-struct Unchanged {
+// What a poll gives: the report, and all of the record but the spans.
+struct Stepped {
     report: Report,
     clock: u32,
-}
-
-// What a change gives.
-struct Changed {
-    report: Report,
+    edge: u32,
+    level: bool,
     memory: Memory,
-    clock: u32,
 }
 
 impl Polled {
@@ -57,109 +55,78 @@ impl Polled {
         }
     }
 
-    // A poll that hands nothing to the decoder.
-    fn kept(self, report: Report, clock: u32) -> PolledTotal
-        ensures { λ r. ⌜ r ≡ keptAt self report clock ⌝ }
-    {
-        let decoder = self.decoder;
-        PolledTotal {
-            report,
-            receiver: Polled {
-                decoder,
-                clock,
-                edge: self.edge,
-                level: self.level,
-            },
-        }
-    }
-
-    // Refusal 4, tested before the clock moves, at an unchanged level too.
+    // The step, with the spans put beside it.
     pub fn poll_by_value(self, level: bool) -> PolledTotal
         ensures { λ r. ⌜ r ≡ pollOf self level ⌝ }
     {
         let decoder = self.decoder;
-        let memory = decoder.memory;
-        if past_end(memory) {
-            return self.kept(Report::Refused(4), self.clock);
-        }
-        let clock = std::num::wrapping_add_u32(self.clock, 1);
-        if self.level == level {
-            return self.kept(Report::Nothing, clock);
-        }
-        let run = std::num::wrapping_sub_u32(clock, self.edge);
-        let total = decoder.event_total(level, run);
-        let report = total.report;
-        let decoder = total.decoder;
+        let spans = decoder.spans;
+        let after = step(self, level);
+        let report = after.report;
+        let memory = after.memory;
+        let decoder = Decoder { spans, memory };
         PolledTotal {
             report,
             receiver: Polled {
                 decoder,
-                clock,
-                edge: clock,
-                level,
+                clock: after.clock,
+                edge: after.edge,
+                level: after.level,
             },
         }
     }
 }
 
-// A poll of an unchanged level, from all that it reads: refusal 4, or nothing and the clock one further on.
-fn at_unchanged(memory: Memory, clock: u32) -> Unchanged
-    ensures { λ r. ⌜ r ≡ atUnchanged memory clock ⌝ }
+// One poll, by value: all that document 01 says of it. Refusal 4 is tested before the clock moves, at an unchanged level too.
+fn step(receiver: Polled, level: bool) -> Stepped
+    ensures { λ r. ⌜ r ≡ stepOf receiver level ⌝ }
 {
+    let decoder = receiver.decoder;
+    let memory = decoder.memory;
     if past_end(memory) {
-        return Unchanged {
+        return Stepped {
             report: Report::Refused(4),
-            clock,
+            clock: receiver.clock,
+            edge: receiver.edge,
+            level: receiver.level,
+            memory,
         };
     }
-    Unchanged {
-        report: Report::Nothing,
-        clock: std::num::wrapping_add_u32(clock, 1),
+    let clock = std::num::wrapping_add_u32(receiver.clock, 1);
+    if receiver.level == level {
+        return Stepped {
+            report: Report::Nothing,
+            clock,
+            edge: receiver.edge,
+            level: receiver.level,
+            memory,
+        };
     }
-}
-
-// A change that is not refused, from all that it reads.
-fn at_change(decoder: Decoder, clock: u32, edge: u32, level: bool) -> Changed
-    ensures { λ r. ⌜ r ≡ atChange decoder clock edge level ⌝ }
-{
-    let after = std::num::wrapping_add_u32(clock, 1);
-    let run = std::num::wrapping_sub_u32(after, edge);
-    let total = decoder.event_total(level, run);
+    let spans = decoder.spans;
+    let run = std::num::wrapping_sub_u32(clock, receiver.edge);
+    let total = total_in(&spans.low, &spans.high, memory, level, run);
     let report = total.report;
-    let decoder = total.decoder;
-    let memory = decoder.memory;
-    Changed {
+    let after = total.memory;
+    Stepped {
         report,
-        memory,
-        clock: after,
+        clock,
+        edge: clock,
+        level,
+        memory: after,
     }
 }
 
-// One poll of the record that the caller keeps, by the same steps. Most polls change nothing, so each way reads and stores only what it needs:
-// an unchanged level stores the clock, a refused change nothing, and a change all but the spans.
+// One poll of the record that the caller keeps: the step, and all but the spans is stored.
 pub fn poll(receiver: &mut Polled, level: bool) -> Report
     ensures { λ r. ⌜ (r ≡ pollOf (now (receiver .entry)) level .report) × (now (receiver .exit) ≡ pollOf (now (receiver .entry)) level .receiver) ⌝ }
 {
-    if receiver.level == level {
-        let memory = receiver.decoder.memory;
-        let clock = receiver.clock;
-        let kept = at_unchanged(memory, clock);
-        receiver.clock = kept.clock;
-        return kept.report;
-    }
-    let memory = receiver.decoder.memory;
-    if past_end(memory) {
-        return Report::Refused(4);
-    }
-    let decoder = receiver.decoder;
-    let clock = receiver.clock;
-    let edge = receiver.edge;
-    let changed = at_change(decoder, clock, edge, level);
-    receiver.decoder.memory = changed.memory;
-    receiver.clock = changed.clock;
-    receiver.edge = changed.clock;
-    receiver.level = level;
-    changed.report
+    let kept = *receiver;
+    let after = step(kept, level);
+    receiver.decoder.memory = after.memory;
+    receiver.clock = after.clock;
+    receiver.edge = after.edge;
+    receiver.level = after.level;
+    after.report
 }
 
 // By value again, through the record lent: whoever calls this one lends nothing.
