@@ -1,7 +1,7 @@
 -- A poll is refused, unchanged or changed, by its two tests, and what each leaves. Of a run of polls, by induction on the levels: two lists joined, the count of reports,
 -- and that n polls of an unchanged level report nothing and put the clock n further on.
 -- Assumes nothing.
-use mathlib.Core.Path.{_≡_, refl, sym, ap, _∙_}
+use mathlib.Core.Path.{_≡_, refl, ap, _∙_}
 use mathlib.Core.Bool.{Bool, true, false, cond, Bool·beq}
 use mathlib.Core.List.{List, [], _∷_, _++_}
 use Prim.Native.Nat.{ℕ, zero, suc, _+_, _%_, _^_, _<_}

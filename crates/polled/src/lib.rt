@@ -99,7 +99,7 @@ fn kept(report: Report, clock: u32, edge: u32, level: bool, memory: Memory) -> S
     }
 }
 
-// One poll, by value, of the record's parts: all that document 01 says of it. `was` is the last level. Refusal 4 is tested before the clock moves, at an unchanged level too.
+// One poll, by value, from the parts of the record: all that document 01 says of it. `was` is the last level. Refusal 4 is tested before the clock moves, at an unchanged level too.
 fn step<'a>(
     low: &'a [u32; 8],
     high: &'a [u32; 8],
@@ -131,7 +131,7 @@ fn step<'a>(
     }
 }
 
-// One poll of the record that the caller keeps: the step, which is lent the spans, and what it gives is stored. An unchanged level has the memory as it was.
+// One poll of the record that the caller keeps: the step, which is lent the ends of the spans, and what it gives is stored. Where the level is unchanged so is the memory, and it is not stored.
 pub fn poll(receiver: &mut Polled, level: bool) -> Report
     ensures { λ r. ⌜ (r ≡ pollOf (now (receiver .entry)) level .report) × (now (receiver .exit) ≡ pollOf (now (receiver .entry)) level .receiver) ⌝ }
 {

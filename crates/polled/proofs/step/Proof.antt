@@ -1,9 +1,7 @@
 -- `polled::step` meets its contract: its two tests pick the definition's branch. Assumes nothing.
 use mathlib.Core.Path.{sym, ap, _∙_}
-use mathlib.Core.Bool.{Bool}
 use borrow.Author.Needs.{needs}
 use Rattle.polled.specs.PolledSteps.{receiverOf, partOf}
-use Rattle.polled.specs.declared.Stepped.{Stepped}
 use Rattle.polled.proofs.Polls.{refused, unchanged, changed, run-length}
 use Rattle.polled.proofs.step.Statement.{statement}
 use Rattle.polled.proofs.step.Tie as tie
