@@ -1,7 +1,7 @@
 -- A poll is refused, unchanged or changed, by its two tests, and what each leaves. Of a run of polls, by induction on the levels: two lists joined, the count of reports,
 -- and that n polls of an unchanged level report nothing and put the clock n further on.
 -- Assumes nothing.
-use mathlib.Core.Path.{_≡_, refl, sym, ap, _∙_}
+use mathlib.Core.Path.{_≡_, refl, ap, _∙_}
 use mathlib.Core.Bool.{Bool, true, false, cond, Bool·beq}
 use mathlib.Core.List.{List, [], _∷_, _++_}
 use Prim.Native.Nat.{ℕ, zero, suc, _+_, _%_, _^_, _<_}
@@ -63,6 +63,20 @@ step-stored p level = each (pastEnd (p .decoder .memory)) (Bool·beq (p .level) 
     each true same = refl
     each false true = refl
     each false false = refl
+
+-- a record with all but its decoder from a step
+abbrev pub kept : Polled → Stepped → PolledTotal
+kept p s =
+    record { report = s .report; receiver = record { decoder = p .decoder; clock = s .clock; edge = s .edge; level = s .level } }
+
+-- is what a poll of an unchanged level gives
+pub step-kept : (p : Polled) (level : Bool) → Bool·beq (p .level) level ≡ true → kept p (stepOf p level) ≡ pollOf p level
+unfolding pollOf
+step-kept p level same = rw same (either (pastEnd (p .decoder .memory)))
+  where
+    either : (past : Bool) → (let total = cond past (pollRefused p) (pollUnchanged p) in kept p (partOf total) ≡ total)
+    either true = refl
+    either false = refl
 
 -- the run length is the one number below 2^32 that takes the last edge to the clock
 pub run-length : (run clock edge : ℕ) → run < 2 ^ 32 → edge < 2 ^ 32 → (run + edge) % 2 ^ 32 ≡ clock → run ≡ runLength clock edge

@@ -7,7 +7,7 @@ use reports::Report;
 use spans::Answer;
 ghost use mathlib.Core.Path.{_≡_};
 ghost use Rattle.polled.specs.Polled.{polledAt, pollOf};
-ghost use Rattle.polled.specs.PolledSteps.{stepOf};
+ghost use Rattle.polled.specs.PolledSteps.{receiverOf, keptPart, stepOf};
 
 // The decoder, the clock, the time of the last edge and the last level.
 pub struct Polled {
@@ -61,7 +61,16 @@ impl Polled {
     {
         let decoder = self.decoder;
         let spans = decoder.spans;
-        let after = step(self, level);
+        let memory = decoder.memory;
+        let after = step(
+            &spans.low,
+            &spans.high,
+            memory,
+            self.clock,
+            self.edge,
+            self.level,
+            level,
+        );
         let report = after.report;
         let memory = after.memory;
         let decoder = Decoder { spans, memory };
@@ -77,55 +86,75 @@ impl Polled {
     }
 }
 
-// One poll, by value: all that document 01 says of it. Refusal 4 is tested before the clock moves, at an unchanged level too.
-fn step(receiver: Polled, level: bool) -> Stepped
-    ensures { λ r. ⌜ r ≡ stepOf receiver level ⌝ }
+// A poll that hands nothing to the decoder.
+fn kept(report: Report, clock: u32, edge: u32, level: bool, memory: Memory) -> Stepped
+    ensures { λ r. ⌜ r ≡ keptPart report clock edge level memory ⌝ }
 {
-    let decoder = receiver.decoder;
-    let memory = decoder.memory;
+    Stepped {
+        report,
+        clock,
+        edge,
+        level,
+        memory,
+    }
+}
+
+// One poll, by value, from the parts of the record: all that document 01 says of it. `was` is the last level. Refusal 4 is tested before the clock moves, at an unchanged level too.
+fn step<'a>(
+    low: &'a [u32; 8],
+    high: &'a [u32; 8],
+    memory: Memory,
+    clock: u32,
+    edge: u32,
+    was: bool,
+    level: bool,
+) -> Stepped
+    ensures { λ r. ⌜ r ≡ stepOf (receiverOf (now (low .entry)) (now (high .entry)) memory clock edge was) level ⌝ }
+{
     if past_end(memory) {
-        return Stepped {
-            report: Report::Refused(4),
-            clock: receiver.clock,
-            edge: receiver.edge,
-            level: receiver.level,
-            memory,
-        };
+        return kept(Report::Refused(4), clock, edge, was, memory);
     }
-    let clock = std::num::wrapping_add_u32(receiver.clock, 1);
-    if receiver.level == level {
-        return Stepped {
-            report: Report::Nothing,
-            clock,
-            edge: receiver.edge,
-            level: receiver.level,
-            memory,
-        };
+    let ticked = std::num::wrapping_add_u32(clock, 1);
+    if was == level {
+        return kept(Report::Nothing, ticked, edge, was, memory);
     }
-    let spans = decoder.spans;
-    let run = std::num::wrapping_sub_u32(clock, receiver.edge);
-    let total = total_in(&spans.low, &spans.high, memory, level, run);
+    let run = std::num::wrapping_sub_u32(ticked, edge);
+    let total = total_in(low, high, memory, level, run);
     let report = total.report;
     let after = total.memory;
     Stepped {
         report,
-        clock,
-        edge: clock,
+        clock: ticked,
+        edge: ticked,
         level,
         memory: after,
     }
 }
 
-// One poll of the record that the caller keeps: the step, and all but the spans is stored.
+// One poll of the record that the caller keeps: the step, which is lent the ends of the spans, and what it gives is stored. Where the level is unchanged so is the memory, and it is not stored.
 pub fn poll(receiver: &mut Polled, level: bool) -> Report
     ensures { λ r. ⌜ (r ≡ pollOf (now (receiver .entry)) level .report) × (now (receiver .exit) ≡ pollOf (now (receiver .entry)) level .receiver) ⌝ }
 {
-    let kept = *receiver;
-    let after = step(kept, level);
-    receiver.decoder.memory = after.memory;
+    let memory = receiver.decoder.memory;
+    let clock = receiver.clock;
+    let edge = receiver.edge;
+    let was = receiver.level;
+    let after = step(
+        &receiver.decoder.spans.low,
+        &receiver.decoder.spans.high,
+        memory,
+        clock,
+        edge,
+        was,
+        level,
+    );
     receiver.clock = after.clock;
     receiver.edge = after.edge;
     receiver.level = after.level;
+    if was == level {
+        return after.report;
+    }
+    receiver.decoder.memory = after.memory;
     after.report
 }
 

@@ -58,7 +58,7 @@ use Rattle.bench_polls.specs.Polls.{sumOf}
 use Rattle.polled.proofs.Lent.{Poll, lent, Says, to-poll, polls-in}
 use Rattle.bench_polls.proofs.Calls.{Add, Fits, report-typed, to-add, adds-in, adds-said}
 use Rattle.bench_polls.proofs.Summing.{summed-next, summed-end}
-use Rattle.polled.proofs.Record.{mach, polled-ty, report-ty, spans-ty, memory-ty, bared, covered, mach-tells, polled-fits}
+use Rattle.polled.proofs.Record.{mach, polled-ty, report-ty, memory-ty, bared, covered, mach-tells, polled-fits}
 use Rattle.polled.proofs.Polled as T
 use Rattle.polled.proofs.Polled.Laws as T′
 use Rattle.reports.proofs.Report as E
@@ -124,7 +124,7 @@ shut = record {
 }
 
 is-shut : code.function ≡ shut
-unfolding report-ty spans-ty memory-ty
+unfolding report-ty memory-ty
 is-shut = refl
 
 -- what a turn begins with: the place in the levels, the sum and the record, and what is known of them

@@ -1,38 +1,36 @@
 -- `polled::step` meets its contract: its two tests pick the definition's branch. Assumes nothing.
 use mathlib.Core.Path.{sym, ap, _∙_}
-use mathlib.Core.Bool.{Bool}
 use borrow.Author.Needs.{needs}
-use Rattle.polled.specs.PolledSteps.{partOf}
-use Rattle.polled.specs.declared.Stepped.{Stepped}
+use Rattle.polled.specs.PolledSteps.{receiverOf, partOf}
 use Rattle.polled.proofs.Polls.{refused, unchanged, changed, run-length}
 use Rattle.polled.proofs.step.Statement.{statement}
 use Rattle.polled.proofs.step.Tie as tie
 
 returns : tie.Need-returns
 returns c =
-    let p = c .before in
-    let a = p .before .before .args in
-    sym (ap partOf (refused (a .receiver) (a .level) (sym (p .past-end .ensures) ∙ c .if1 .taken)))
+    let p = c .before .before in
+    let a = p .before .args in
+    let z = receiverOf (a .low .now) (a .high .now) (a .memory) (a .clock) (a .edge) (a .was) in
+    c .kept .ensures ∙ sym (ap partOf (refused z (a .level) (sym (p .past-end .ensures) ∙ c .before .if1 .taken)))
 
 returns-2 : tie.Need-returns-2
 returns-2 c =
     let n = c .before .before in
     let o = n .before in
-    let a = o .before .before .before .args in
-    simp (
-      unchanged (a .receiver) (a .level) (sym (o .before .past-end .ensures) ∙ o .if1 .left) (c .if2 .taken),
-      n .wrapping-add-u32 .ensures,
-    )
+    let a = o .before .before .args in
+    let z = receiverOf (a .low .now) (a .high .now) (a .memory) (a .clock) (a .edge) (a .was) in
+    simp (c .kept2 .ensures, unchanged z (a .level) (sym (o .before .past-end .ensures) ∙ o .if1 .left) (c .before .if2 .taken), n .wrapping-add-u32 .ensures)
 
 returns-3 : tie.Need-returns-3
 returns-3 c =
-    let s = c .before .before .before .before in
-    let e = s .before .before in
-    let n = e .before .before in
+    let s = c .before in
+    let e = s .before in
+    let n = e .before in
     let o = n .before in
-    let a = o .before .before .before .args in
+    let a = o .before .before .args in
+    let z = receiverOf (a .low .now) (a .high .now) (a .memory) (a .clock) (a .edge) (a .was) in
     simp (
-      changed (a .receiver) (a .level) (sym (o .before .past-end .ensures) ∙ o .if1 .left) (e .if2 .left),
+      changed z (a .level) (sym (o .before .past-end .ensures) ∙ o .if1 .left) (e .if2 .left),
       c .total-in .ensures,
       run-length _ _ _ (s .wrapping-sub-u32 .ok) (search needs) (s .wrapping-sub-u32 .ensures),
       n .wrapping-add-u32 .ensures,
@@ -43,7 +41,9 @@ step-spec =
     tie.close
     (tie.spec
     (λ c κs. search needs)
+    (λ c κs. search needs)
     returns
+    (λ c κs. search needs)
     (λ c κs. search needs)
     returns-2
     (λ c κs. search needs)
