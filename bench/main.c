@@ -49,7 +49,7 @@ static uint32_t below(uint32_t bound) {
     return (uint32_t)((x ^ x >> 31) % bound);
 }
 
-/* one more duration, wrong by at most so many ticks */
+/* one more duration, with a deviation of at most so many ticks */
 static void edge(uint32_t duration, uint32_t wrong) {
     edges[made++] = duration + below(2 * wrong + 1) - wrong;
 }

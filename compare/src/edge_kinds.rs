@@ -1,4 +1,4 @@
-//! Edges of many kinds: frames with wrongs at the bounds, broken and joined ones, and noise.
+//! Edges of many kinds: frames with deviations at the bounds, broken and joined ones, and noise.
 
 use crate::calls::Edge;
 use crate::document::{self, Protocol, Spans, PLACES};
@@ -7,7 +7,7 @@ use crate::frames::{self, Frame, Kind};
 use crate::pulse_frames;
 use crate::random::Random;
 
-/// By how many microseconds each duration of a frame may be wrong.
+/// By how many microseconds each duration of a frame may deviate.
 const BOUNDS: [u64; 5] = [28, 106, 53, 50, 42];
 
 /// Durations about the ends of 32 bits.
@@ -85,7 +85,7 @@ impl Maker {
         edges
     }
 
-    /// A frame of any command after a silence, with no duration wrong.
+    /// A frame of any command after a silence, with no deviation.
     fn frame(&mut self) -> Vec<Edge> {
         let frame = self.durations();
         let mut edges = alternating(frame.durations().iter().map(|&duration| duration as u32));
@@ -116,7 +116,7 @@ impl Maker {
         self.random.below(self.longest + 1)
     }
 
-    /// Each duration wrong by no more than the bound: not at all, at random, or all that it may.
+    /// Each duration deviates by no more than the bound: not at all, at random, or all that it may.
     fn frame_in_bounds(&mut self) -> Vec<Edge> {
         let mut edges = self.frame();
         let manner = self.random.below(5);
@@ -133,7 +133,7 @@ impl Maker {
         edges
     }
 
-    /// The same, and one duration wrong by one more.
+    /// The same, and one duration deviates by one more.
     fn frame_past_bounds(&mut self) -> Vec<Edge> {
         let mut edges = self.frame_in_bounds();
         let wrong = 1 + self.random.below(edges.len() as u32 - 1) as usize;

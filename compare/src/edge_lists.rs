@@ -43,7 +43,7 @@ pub fn denon_part(times: u32) -> Calls {
     edges_part(Protocol::Denon, times)
 }
 
-/// At 1 MHz first: a wrong is easiest to read there.
+/// At 1 MHz first: a mistake is easiest to read there.
 fn edges_part(protocol: Protocol, times: u32) -> Calls {
     let others = RATES.into_iter().filter(|&rate| rate != MHZ);
     let rates = iter::once(MHZ).chain(others);

@@ -58,7 +58,7 @@ pub enum End {
     Never,
 }
 
-/// A program's name and first words: what is run has further words behind them.
+/// A program's name and first words: what is run has further words after them.
 pub struct Program<'a> {
     pub name: &'a OsString,
     pub words: &'a [OsString],

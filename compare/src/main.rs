@@ -56,7 +56,7 @@ use crate::large::Choice;
 const USAGE: &str = "usage:
   compare answers                    the expected answers to the calls on stdin
   compare recorded                   the calls of the recorded test
-  compare scenes                     where its parts stand; a scene's name is the wrong that it would show
+  compare scenes                     where its parts stand; a scene's name is the mistake that it would show
   compare calls [--part NAME] [--times N]
                                      the calls of the large run
   compare large [--part NAME] [--times N] PROGRAM [ARGS..]
@@ -64,7 +64,7 @@ const USAGE: &str = "usage:
                                      and of polls are made N times longer
   compare mutated [--times N] PROGRAM [ARGS..]
                                      bad input to the program with the word replay or tour
-                                     behind ARGS: mutated lines, files and words, closed
+                                     after ARGS: mutated lines, files and words, closed
                                      outputs; N passes
   compare rates                      where the crate's spans are ours, over every rate
   compare tour WORDS..               what the program tour prints

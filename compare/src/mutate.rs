@@ -158,7 +158,7 @@ pub fn cut(random: &mut Random, line: &[u8], _: &[u8]) -> Vec<u8> {
     .to_vec()
 }
 
-/// The line with another word at a place that holds a number, or behind its end.
+/// The line with another word at a place that holds a number, or after its end.
 fn with_word(
     random: &mut Random,
     line: &[u8],
@@ -204,7 +204,7 @@ fn stretched(line: &[u8], at: usize, byte: u8, count: usize) -> Vec<u8> {
     [&line[..at], &vec![byte; count][..], &line[at..]].concat()
 }
 
-/// Before or behind the line, or beside a blank of it.
+/// Before or after the line, or beside a blank of it.
 fn blanks(random: &mut Random, line: &[u8], _: &[u8]) -> Vec<u8> {
     let mut places = vec![0, line.len()];
     places.extend((0..line.len()).filter(|&at| line[at] == b' '));
@@ -213,7 +213,7 @@ fn blanks(random: &mut Random, line: &[u8], _: &[u8]) -> Vec<u8> {
     stretched(line, at, b' ', count)
 }
 
-/// In place of a blank, or behind the line.
+/// In place of a blank, or after the line.
 fn tab(random: &mut Random, line: &[u8], _: &[u8]) -> Vec<u8> {
     let mut made = line.to_vec();
     made.push(b' ');

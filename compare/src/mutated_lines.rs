@@ -1,4 +1,4 @@
-//! Mutated lines to replay: the recorded calls in their order, and behind each some lines that are
+//! Mutated lines to replay: the recorded calls in their order, and after each some lines that are
 //! made of it. A mutated line that is still a call changes the slots on both sides alike.
 
 use std::ffi::OsString;

@@ -119,7 +119,7 @@ fn told(program: &Program, words: &[OsString]) -> io::Result<Ended> {
 }
 
 /// Bad words end with status 0, as good ones do. What `help` prints says nothing of the crate: it
-/// is the same whatever stands behind it.
+/// is the same whatever stands after it.
 fn expected(words: &[OsString], help: &[u8]) -> io::Result<Ended> {
     let mut output = Vec::new();
     if tour::run(&mut output, words)?.is_none() {

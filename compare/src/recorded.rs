@@ -50,7 +50,7 @@ fn parts() -> Vec<Part> {
         ("lines_that_are_no_call", not_understood()),
         ("leading_zeros", leading_zeros()),
         (
-            "a_call_behind_them",
+            "a_call_after_them",
             vec![b"lookup 5 1000000 5000".to_vec()],
         ),
     ];

@@ -1,4 +1,4 @@
-//! The scenes of the recorded test: each begins with what it opens, and is named by the wrong
+//! The scenes of the recorded test: each begins with what it opens, and is named by the mistake
 //! that it would show.
 
 use crate::recorded_polls::*;

@@ -30,7 +30,7 @@ The frame of RC5 address 5, command 12, start 3, toggle 0, and what a fresh deco
 const HELD_KEY: &str = "
 3. Whose command does a held key show?
 An NEC frame breaks after eight bits: a sync of 13500, eight ones of 2250 each, a pulse of 5000. Then the key's repeat comes, of 11250.
-A pulse is a fall and the rise behind it. These edges report something; the repeat shows the bits that came before the break.
+A pulse is a fall and the rise after it. These edges report something; the repeat shows the bits that came before the break.
 ";
 
 const REFUSALS: &str = "
@@ -119,9 +119,9 @@ fn send_words(words: &[OsString]) -> Option<Send> {
     let mut sent = Send::at_the_bound(protocol, command_words(told)?);
     match bounds {
         [] => {}
-        [silence, wrong] => {
+        [silence, deviation] => {
             sent.silence = number(silence)?;
-            sent.wrong = number(wrong)?;
+            sent.deviation = number(deviation)?;
         }
         _ => return None,
     }

@@ -1,4 +1,4 @@
-//! A frame sent after noise and a silence, with a wrong at each duration: what the program `tour`
+//! A frame sent after noise and a silence, with a deviation at each duration: what the program `tour`
 //! shall print of it.
 
 use std::convert::TryFrom;
@@ -12,15 +12,15 @@ use crate::tour::{report, told, RATE};
 
 const SENT: &str = "
 2. A frame that is sent is heard
-Noise comes first: a rise after 3000, a fall after 2664, a rise after 889, a fall after 0. Behind the silence the frame rises;
-two of its durations are too long by the wrong, two too short, and so on. At the bounds the command comes, once:
+Noise comes first: a rise after 3000, a fall after 2664, a rise after 889, a fall after 0. After the silence the frame rises;
+two of its durations are too long by the deviation, two too short, and so on. At the bounds the command comes, once:
 ";
 
-const WRONG: &str = "With one tick more of wrong these are lost:\n";
+const DEVIATED: &str = "With one tick more of deviation these are lost:\n";
 
 const SILENCE: &str = "With one tick less of silence, too:\n";
 
-const HEAD: &str = "protocol address command start toggle silence wrong  first edge  others  next edge  reports\n";
+const HEAD: &str = "protocol address command start toggle silence deviation  first edge  others  next edge  reports\n";
 
 /// The durations of the noise; the first edge rises.
 const NOISE: [u32; 4] = [3000, 2664, 889, 0];
@@ -30,13 +30,13 @@ pub struct Send {
     protocol: u32,
     command: Command,
     pub silence: u32,
-    pub wrong: u32,
+    pub deviation: u32,
 }
 
 impl Send {
-    /// The shortest silence and the largest wrong that demand 3 speaks of.
+    /// The shortest silence and the largest deviation that demand 3 speaks of.
     pub fn at_the_bound(protocol: u32, command: Command) -> Send {
-        let (silence, wrong) = match protocol {
+        let (silence, deviation) = match protocol {
             1 => (14446, 28),
             2 => (1956, 106),
             _ => (2984, 53),
@@ -45,7 +45,7 @@ impl Send {
             protocol,
             command,
             silence,
-            wrong,
+            deviation,
         }
     }
 }
@@ -72,13 +72,13 @@ pub fn show(out: &mut impl Write, sent: &Send) -> io::Result<()> {
 
 /// The part of the tour: at the bounds, and beside them.
 pub fn show_bounds(out: &mut impl Write) -> io::Result<()> {
-    let texts = [SENT.to_string() + HEAD, WRONG.to_string(), SILENCE.to_string()];
+    let texts = [SENT.to_string() + HEAD, DEVIATED.to_string(), SILENCE.to_string()];
     for (text, (less, more)) in texts.iter().zip([(0, 0), (0, 1), (1, 0)]) {
         out.write_all(text.as_bytes())?;
         for (kind, command) in [(Kind::Nec, told(4, 8)), (Kind::Rc5, told(5, 12)), (Kind::Rc6, told(5, 12))] {
             let mut sent = Send::at_the_bound(kind.number(), command);
             sent.silence -= less;
-            sent.wrong += more;
+            sent.deviation += more;
             line(out, kind, &sent)?;
         }
     }
@@ -93,7 +93,7 @@ fn line(out: &mut impl Write, kind: Kind, sent: &Send) -> io::Result<()> {
         toggle,
     } = sent.command;
     write!(out, " {:>7} {:>7} {:>7} {:>5}", sent.protocol, address, command, start)?;
-    write!(out, " {:>6} {:>7} {:>5}  ", u8::from(toggle), sent.silence, sent.wrong)?;
+    write!(out, " {:>6} {:>7} {:>9}  ", u8::from(toggle), sent.silence, sent.deviation)?;
     let heard = heard(kind, sent);
     let first = match heard.first.as_str() {
         "nothing" | "error data" => format!("{:<10}", heard.first),
@@ -117,7 +117,7 @@ fn heard(kind: Kind, sent: &Send) -> Heard {
     };
     for (place, &duration) in frame.durations().iter().enumerate().skip(1) {
         let duration = u32::try_from(duration).expect("a duration fits 32 bits");
-        let report = report(&mut slots, edge_at(place, wronged(place - 1, duration, sent.wrong)));
+        let report = report(&mut slots, edge_at(place, deviated(place - 1, duration, sent.deviation)));
         heard.note(place + 1, report);
     }
     heard
@@ -145,10 +145,10 @@ fn edge_at(place: usize, duration: u32) -> Edge {
 }
 
 /// Two durations come too long, two too short, and so on; on 32 bits.
-fn wronged(place: usize, duration: u32, wrong: u32) -> u32 {
+fn deviated(place: usize, duration: u32, deviation: u32) -> u32 {
     if place % 4 < 2 {
-        duration.wrapping_add(wrong)
+        duration.wrapping_add(deviation)
     } else {
-        duration.wrapping_sub(wrong)
+        duration.wrapping_sub(deviation)
     }
 }

@@ -4,28 +4,27 @@ use mathlib.Core.Path.{_≡_}
 use mathlib.Core.Bool.{Bool, not}
 use mathlib.Core.List.{List}
 use Prim.Native.Nat.{ℕ, _+_, _≤_, _<_}
-use native.Mathlib.Numerals.{add-one}
-use lib.ListN.{length, getD, drop, drop-of-length-le}
-use lib.Seq.{drop-cons}
-use Rattle.reports.specs.Run.{Edge, edge, runReports, alternating}
+use lib.ListN.{length, getD, drop}
+use Rattle.spans.specs.declared.Spans.{Spans}
+use Rattle.reports.specs.Edges.{edge, alternating}
+use Rattle.reports.specs.Machine.{Machine, total, runReports}
 use Rattle.reports.specs.declared.Report.{Report}
+use Rattle.reports.proofs.Edges.{next-edge, no-edge}
 use Rattle.bench.specs.Bench.{added, addedAll}
 
-module _ {D : Type 0} (report : D → Edge → Report) (after : D → Edge → D) where
+module _ (M : Machine) where
   -- what the sum comes to over the durations from a place on
-  abbrev pub summed : ℕ → D → Bool → List ℕ → ℕ
-  summed sum decoder rising durations = addedAll sum (runReports report after decoder (alternating rising durations))
+  abbrev pub summed : ℕ → Spans → M .Memory → Bool → List ℕ → ℕ
+  summed sum spans m rising durations = addedAll sum (runReports M spans m (alternating rising durations))
 
-  pub summed-next
-      : (durations : List ℕ) (at : ℕ) → at < length durations → (sum then : ℕ) (decoder next : D) (rising : Bool) (told : Report)
-      → told ≡ report decoder (edge rising (getD durations at 0)) → next ≡ after decoder (edge rising (getD durations at 0)) → then ≡ added sum told
-      → summed then next (not rising) (drop (at + 1) durations) ≡ summed sum decoder rising (drop at durations)
-  unfolding addedAll runReports alternating
-  summed-next durations at more sum then decoder next rising told tells goes adds =
-      rw (drop-cons durations at 0, adds, tells, goes, add-one at)
+  module _ (durations : List ℕ) (at : ℕ) (spans : Spans) (m : M .Memory) (rising : Bool) (sum : ℕ) where
+    pub summed-next
+        : at < length durations → {then : ℕ} {same : Spans} {next : M .Memory} {report : Report} → same ≡ spans
+        → report ≡ total M spans m (edge rising (getD durations at 0)) .report → next ≡ total M spans m (edge rising (getD durations at 0)) .memory
+        → then ≡ added sum report → summed then same next (not rising) (drop (at + 1) durations) ≡ summed sum spans m rising (drop at durations)
+    unfolding addedAll runReports
+    summed-next more stays reports goes adds = rw (next-edge rising durations at more, adds, stays, reports, goes)
 
-  pub summed-end
-      : (durations : List ℕ) (at : ℕ) → length durations ≤ at → (sum : ℕ) (decoder : D) (rising : Bool)
-      → summed sum decoder rising (drop at durations) ≡ sum
-  unfolding addedAll runReports alternating
-  summed-end durations at past sum decoder rising = rw (drop-of-length-le durations {i = at} past)
+    pub summed-end : length durations ≤ at → summed sum spans m rising (drop at durations) ≡ sum
+    unfolding addedAll runReports
+    summed-end past = rw (no-edge rising durations at past)

@@ -8,19 +8,16 @@ use Rattle.commands.specs.declared.nec.NecCommand.{NecCommand}
 use Rattle.commands.specs.declared.rc5.Rc5Command.{Rc5Command}
 use Rattle.commands.specs.declared.rc6.Rc6Command.{Rc6Command}
 use Rattle.commands.specs.declared.sbp.SbpCommand.{SbpCommand}
-use Rattle.reports.specs.Run.{alternating}
+use Rattle.spans.specs.declared.Spans.{Spans}
+use Rattle.reports.specs.Edges.{alternating}
+use Rattle.reports.specs.Machine.{Machine, runReports}
 use Rattle.reports.specs.declared.Fault.{Fault}
 use Rattle.reports.specs.declared.Fault.the-variants.{Address, Data}
 use Rattle.reports.specs.declared.Report.{Report}
 use Rattle.reports.specs.declared.Report.the-variants as report
-use Rattle.nec.specs.Decoder as nec
 use Rattle.nec_encoder.specs.Encoder.{necFrame}
-use Rattle.rc5.specs.Decoder as rc5
 use Rattle.rc5_encoder.specs.Encoder.{rc5Frame}
-use Rattle.rc6.specs.Decoder as rc6
 use Rattle.rc6_encoder.specs.Encoder.{rc6Frame}
-use Rattle.sbp.specs.Decoder as sbp
-use Rattle.denon.specs.Decoder as denon
 
 -- above the numbers of a command
 abbrev pub flagCode : Bool → ℕ
@@ -64,20 +61,9 @@ unfoldable pub addedAll : ℕ → List Report → ℕ
 addedAll sum [] = sum
 addedAll sum (report ∷ reports) = addedAll (added sum report) reports
 
-abbrev pub necSum : ℕ → List ℕ → ℕ
-necSum rate durations = addedAll 0 (nec.reportsOf (nec.newAt rate .decoder) (alternating true durations))
-
-abbrev pub rc5Sum : ℕ → List ℕ → ℕ
-rc5Sum rate durations = addedAll 0 (rc5.reportsOf (rc5.newAt rate .decoder) (alternating true durations))
-
-abbrev pub rc6Sum : ℕ → List ℕ → ℕ
-rc6Sum rate durations = addedAll 0 (rc6.reportsOf (rc6.newAt rate .decoder) (alternating true durations))
-
-abbrev pub sbpSum : ℕ → List ℕ → ℕ
-sbpSum rate durations = addedAll 0 (sbp.reportsOf (sbp.newAt rate .decoder) (alternating true durations))
-
-abbrev pub denonSum : ℕ → List ℕ → ℕ
-denonSum rate durations = addedAll 0 (denon.reportsOf (denon.newAt rate .decoder) (alternating true durations))
+-- what a machine's reports come to, from fresh and over edges that alternate, the first rising
+abbrev pub sumOf : Machine → Spans → List ℕ → ℕ
+sumOf machine spans durations = addedAll 0 (runReports machine spans (machine .fresh) (alternating true durations))
 
 -- the frames of the commands that the encoders are handed
 abbrev pub necFrameOf : ℕ → ℕ → ℕ → Bool → ℕ → List ℕ

@@ -15,7 +15,13 @@ use reports::Report;
 use sbp::decoder::SbpDecoder;
 ghost use mathlib.Core.Path.{_≡_};
 ghost use Prim.Native.Nat.{_≤_};
-ghost use Rattle.bench.specs.Bench.{flagCode, necCode, rc5Code, rc6Code, sbpCode, commandCode, faultCode, added, necSum, rc5Sum, rc6Sum, sbpSum, denonSum};
+ghost use Rattle.bench.specs.Bench.{flagCode, necCode, rc5Code, rc6Code, sbpCode, commandCode, faultCode, added, sumOf};
+ghost use Rattle.spans.specs.Spans.{spansOf};
+ghost use Rattle.nec.specs.Decoder as nec;
+ghost use Rattle.rc5.specs.Decoder as rc5;
+ghost use Rattle.rc6.specs.Decoder as rc6;
+ghost use Rattle.sbp.specs.Decoder as sbp;
+ghost use Rattle.denon.specs.Decoder as denon;
 ghost use Rattle.frames.specs.Frames.{encodedOf, encodedLength, leftOf};
 ghost use Rattle.bench.specs.Bench.{necFrameOf, rc5FrameOf, rc6FrameOf};
 
@@ -85,7 +91,7 @@ pub fn add(sum: u64, report: Report) -> u64
 
 #[no_mangle]
 pub extern "C" fn bench_nec(durations: &[u32], rate: u32) -> u64
-    ensures { λ r. ⌜ r ≡ necSum rate (now (durations .entry)) ⌝ }
+    ensures { λ r. ⌜ r ≡ sumOf nec.machine (spansOf 1 rate .spans) (now (durations .entry)) ⌝ }
 {
     let made = NecDecoder::new(rate);
     let mut decoder = made.decoder;
@@ -105,7 +111,7 @@ pub extern "C" fn bench_nec(durations: &[u32], rate: u32) -> u64
 
 #[no_mangle]
 pub extern "C" fn bench_rc5(durations: &[u32], rate: u32) -> u64
-    ensures { λ r. ⌜ r ≡ rc5Sum rate (now (durations .entry)) ⌝ }
+    ensures { λ r. ⌜ r ≡ sumOf rc5.machine (spansOf 2 rate .spans) (now (durations .entry)) ⌝ }
 {
     let made = Rc5Decoder::new(rate);
     let mut decoder = made.decoder;
@@ -125,7 +131,7 @@ pub extern "C" fn bench_rc5(durations: &[u32], rate: u32) -> u64
 
 #[no_mangle]
 pub extern "C" fn bench_rc6(durations: &[u32], rate: u32) -> u64
-    ensures { λ r. ⌜ r ≡ rc6Sum rate (now (durations .entry)) ⌝ }
+    ensures { λ r. ⌜ r ≡ sumOf rc6.machine (spansOf 3 rate .spans) (now (durations .entry)) ⌝ }
 {
     let made = Rc6Decoder::new(rate);
     let mut decoder = made.decoder;
@@ -145,7 +151,7 @@ pub extern "C" fn bench_rc6(durations: &[u32], rate: u32) -> u64
 
 #[no_mangle]
 pub extern "C" fn bench_sbp(durations: &[u32], rate: u32) -> u64
-    ensures { λ r. ⌜ r ≡ sbpSum rate (now (durations .entry)) ⌝ }
+    ensures { λ r. ⌜ r ≡ sumOf sbp.machine (spansOf 4 rate .spans) (now (durations .entry)) ⌝ }
 {
     let made = SbpDecoder::new(rate);
     let mut decoder = made.decoder;
@@ -165,7 +171,7 @@ pub extern "C" fn bench_sbp(durations: &[u32], rate: u32) -> u64
 
 #[no_mangle]
 pub extern "C" fn bench_denon(durations: &[u32], rate: u32) -> u64
-    ensures { λ r. ⌜ r ≡ denonSum rate (now (durations .entry)) ⌝ }
+    ensures { λ r. ⌜ r ≡ sumOf denon.machine (spansOf 5 rate .spans) (now (durations .entry)) ⌝ }
 {
     let made = DenonDecoder::new(rate);
     let mut decoder = made.decoder;

@@ -4,7 +4,7 @@ use mathlib.Core.Path.{_≡_, _∙_}
 use mathlib.Core.Bool.{Bool}
 use mathlib.Core.List.{List}
 use Rattle.frames.specs.declared.Encoded.{Encoded}
-use Rattle.receiver.specs.Encoder.{encodedBy, leftBy, frameBy}
+use Rattle.protocols.specs.Encoder.{encodedBy, leftBy, frameBy}
 
 module _ {p p′ r r′ addr addr′ cmd cmd′ start start′ : ℕ} {lent lent′ : List ℕ} (toggle : Bool) where
   pub same-answer : {x : Encoded} → x ≡ encodedBy p r lent (frameBy p r addr cmd start toggle) → p ≡ p′ → r ≡ r′ → lent ≡ lent′ → addr ≡ addr′ → cmd ≡ cmd′ → start ≡ start′ → x ≡ encodedBy p′ r′ lent′ (frameBy p′ r′ addr′ cmd′ start′ toggle)

@@ -7,7 +7,7 @@ use native.Mathlib.Nat.{not-suc-le-zero, le-of-suc-le-suc}
 use lib.Dec.{leb, eqb}
 use lib.ListN.{getD, length}
 use borrow.Author.Tests.{eqb-true, leb-true}
-use Rattle.spans.proofs.Within.{both-left, both-right}
+use Rattle.refusals.proofs.Within.{both-left, both-right}
 use Rattle.calls.specs.Calls.{Call, calls, word64}
 use Rattle.calls.specs.CallsSteps.{callAt, rangeAt}
 

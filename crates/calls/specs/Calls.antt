@@ -77,7 +77,7 @@ isNamed line c = line .whole && eqb (line .name) (c .name) && eqb (line .count) 
 abbrev pub isCall : Line → List ℕ → Call → Bool
 isCall line ns c = isNamed line c && areFrom 0 (c .numbers) ns
 
--- the place of the first call that a line is; with none, the place behind the last
+-- the place of the first call that a line is; with none, the place after the last
 unfoldable pub firstIn : Line → List ℕ → List Call → ℕ → ℕ
 firstIn line ns [] place = place
 firstIn line ns (c ∷ cs) place = cond (isCall line ns c) place (firstIn line ns cs (place + 1))

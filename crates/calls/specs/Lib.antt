@@ -3,4 +3,4 @@ pub mod CallsSteps
 pub mod OnSpans
 pub mod OnSlots
 pub mod OnFrames
-pub mod Told
+pub mod CallText

@@ -6,7 +6,7 @@ use lib.Dec.{eqb}
 use lib.ListN.{getD, drop}
 use Rattle.frames.specs.Filled.{filled}
 use Rattle.frames.specs.declared.Encoded.{Encoded}
-use Rattle.receiver.specs.Encoder.{encodedBy, leftBy, frameBy}
+use Rattle.protocols.specs.Encoder.{encodedBy, leftBy, frameBy}
 
 abbrev pub mark : ℕ → ℕ
 mark place = 4000000000 + place % 1000
@@ -15,13 +15,13 @@ mark place = 4000000000 + place % 1000
 abbrev pub marked : ℕ → List ℕ → List ℕ
 marked place xs = filled mark place xs
 
--- how many places hold their mark, from a place on
+-- how many places hold their mark, so are unwritten, from a place on
 abbrev pub marksIn : ℕ → List ℕ → ℕ
 marksIn place [] = 0
 marksIn place (x ∷ xs) = cond (eqb x (mark place)) 1 0 + marksIn (place + 1) xs
 
-unfoldable pub keptFrom : List ℕ → ℕ → ℕ
-keptFrom lent from = marksIn from (drop from lent)
+unfoldable pub unwrittenFrom : List ℕ → ℕ → ℕ
+unwrittenFrom lent from = marksIn from (drop from lent)
 
 -- encode PROTOCOL RATE ADDRESS COMMAND START TOGGLE ROOM
 abbrev pub frameAt : List ℕ → List ℕ

@@ -1,8 +1,8 @@
 // The calls of README's "The call language", by their numbers from 0, and which of them a line is.
+pub mod call_text;
 pub mod on_frames;
 pub mod on_slots;
 mod on_spans;
-pub mod told;
 
 use words::Line;
 ghost use mathlib.Core.Path.{_≡_};
@@ -61,7 +61,7 @@ const LAST: u64 = 0xFFFFFFFF;
 
 const ANY: u64 = 0xFFFFFFFFFFFFFFFF;
 
-// The largest that each number may be; whatever stands behind the numbers is not asked.
+// The largest that each number may be; whatever stands after the numbers is not asked.
 const MOST: [[u64; 7]; 12] = [
     [LAST, LAST, ANY, ANY, ANY, ANY, ANY],
     [LAST, LAST, ANY, ANY, ANY, ANY, ANY],

@@ -6,7 +6,7 @@ ghost use mathlib.Core.Path.{_≡_};
 ghost use mathlib.Core.Bool.{cond};
 ghost use Prim.Native.Nat.{_≤_};
 ghost use lib.Dec.{eqb};
-ghost use Rattle.calls.specs.OnFrames.{mark, marked, keptFrom, encodedAt, leftAt};
+ghost use Rattle.calls.specs.OnFrames.{mark, marked, unwrittenFrom, encodedAt, leftAt};
 
 // What a place holds before the call.
 fn mark_of(place: usize) -> u32
@@ -25,21 +25,21 @@ fn put_marks(lent: &mut [u32])
     }
 }
 
-// 1 where a place holds its mark, else 0.
-fn kept_at(x: u32, place: usize) -> usize
+// 1 where a place holds its mark, as it was not written to; else 0.
+fn unwritten_at(x: u32, place: usize) -> usize
     ensures { λ r. ⌜ (r ≡ cond (eqb x (mark place)) 1 0) × (r ≤ 1) ⌝ }
 {
     if x == mark_of(place) { 1 } else { 0 }
 }
 
-// How many places from one on hold their mark.
-pub fn kept(lent: &[u32], from: usize) -> usize
-    ensures { λ r. ⌜ r ≡ keptFrom (now (lent .entry)) from ⌝ }
+// How many places from one on are unwritten.
+pub fn unwritten(lent: &[u32], from: usize) -> usize
+    ensures { λ r. ⌜ r ≡ unwrittenFrom (now (lent .entry)) from ⌝ }
 {
     let mut count: usize = 0;
     let mut i = from;
     while i < lent.len() {
-        count += kept_at(lent[i], i);
+        count += unwritten_at(lent[i], i);
         i += 1;
     }
     count
@@ -51,7 +51,7 @@ pub fn encode(n: &[u64; 8], lent: &mut [u32]) -> Encoded
     ensures left { λ _. ⌜ now (lent .exit) ≡ leftAt (now (n .entry)) (now (lent .entry)) ⌝ }
 {
     put_marks(lent);
-    receiver::encoder::encode(
+    protocols::encoder::encode_by(
         low_32(n[0]),
         low_32(n[1]),
         low_8(n[2]),

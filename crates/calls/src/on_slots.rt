@@ -1,10 +1,10 @@
 // The calls on slots: open, event, total, edge, command and reset on a decoder, polled, poll and idle on a polled receiver.
-use crate::on_spans::said_of;
-use answers::Said;
+use crate::on_spans::phrase_of;
+use answers::Phrase;
 use slots::Ask;
-use slots::Done;
 use slots::Head;
 use slots::Slot;
+use slots::SlotAnswer;
 use slots::asked;
 use slots::closed;
 use slots::head_of;
@@ -12,7 +12,6 @@ use slots::opened;
 use words::low_32;
 ghost use mathlib.Core.Path.{_≡_};
 ghost use Prim.Native.Nat.{_<_};
-ghost use lib.Dec.{eqb};
 ghost use Rattle.calls.specs.OnSlots.{allClosed, placeOf, askOf, onSlot, isEdge, answeredBy, isOnSlot, elsewhere, answeredAt};
 
 // Eight slots of decoders, then eight of polled receivers.
@@ -20,16 +19,16 @@ pub struct Slots {
     pub slots: [Slot; 16],
 }
 
-// What a call answers. An edge on an open slot tells its head first.
-pub struct Told {
+// What a call answers. An edge on an open slot answers its head first.
+pub struct CallAnswer {
     pub is_edge: bool,
     pub head: Head,
-    pub said: Said,
+    pub phrase: Phrase,
 }
 
 // What a call answers, and the slots after it.
-pub struct Outcome {
-    pub told: Told,
+pub struct SlotsAnswer {
+    pub answer: CallAnswer,
     pub slots: Slots,
 }
 
@@ -62,8 +61,8 @@ fn ask_of(call: usize) -> Ask
     }
 }
 
-// The numbers are those behind the slot's. That of idle stands where others have a level.
-fn on_slot(call: usize, slot: Slot, a: u32, b: u32) -> Done
+// The numbers are those after the slot's. That of idle stands where others have a level.
+fn on_slot(call: usize, slot: Slot, a: u32, b: u32) -> SlotAnswer
     ensures { λ r. ⌜ r ≡ onSlot call slot a b ⌝ }
 {
     if call == crate::OPEN {
@@ -84,23 +83,26 @@ fn is_edge(call: usize, is_open: bool) -> bool
     call == crate::EDGE && is_open
 }
 
-fn answered_by(call: usize, place: usize, a: u32, b: u32, slots: Slots) -> Outcome
+fn answered_by(call: usize, place: usize, a: u32, b: u32, slots: Slots) -> SlotsAnswer
     requires { ⌜ place < 16 ⌝ }
     ensures { λ r. ⌜ r ≡ answeredBy call place a b slots ⌝ }
 {
     let mut after = slots;
     let slot = after.slots[place];
     let head = head_of(slot, a == 1, b);
-    let done = on_slot(call, slot, a, b);
-    let said = done.said;
-    let left = done.slot;
+    let slot_answer = on_slot(call, slot, a, b);
+    let phrase = slot_answer.phrase;
+    let left = slot_answer.slot;
     after.slots[place] = left;
-    let told = Told {
+    let answer = CallAnswer {
         is_edge: is_edge(call, slot.is_open),
         head,
-        said,
+        phrase,
     };
-    Outcome { told, slots: after }
+    SlotsAnswer {
+        answer,
+        slots: after,
+    }
 }
 
 // From open to idle.
@@ -110,29 +112,29 @@ fn is_on_slot(call: usize) -> bool
     crate::OPEN <= call && call <= crate::IDLE
 }
 
-// A call that asks no slot tells one text.
-fn elsewhere(said: Said, slots: Slots) -> Outcome
-    ensures { λ r. ⌜ r ≡ elsewhere said slots ⌝ }
+// A call that asks no slot answers one phrase.
+fn elsewhere(phrase: Phrase, slots: Slots) -> SlotsAnswer
+    ensures { λ r. ⌜ r ≡ elsewhere phrase slots ⌝ }
 {
     let head = Head {
-        status: said,
-        command: said,
+        status: phrase,
+        command: phrase,
     };
-    let told = Told {
+    let answer = CallAnswer {
         is_edge: false,
         head,
-        said,
+        phrase,
     };
-    Outcome { told, slots }
+    SlotsAnswer { answer, slots }
 }
 
 // The first number of a call on a slot is the slot's.
-pub fn answered(call: usize, n: &[u64; 8], slots: Slots) -> Outcome
+pub fn answered(call: usize, n: &[u64; 8], slots: Slots) -> SlotsAnswer
     ensures { λ r. ⌜ r ≡ answeredAt call (now (n .entry)) slots ⌝ }
 {
     if is_on_slot(call) {
         let place = place_of(call, n[0]);
         return answered_by(call, place, low_32(n[1]), low_32(n[2]), slots);
     }
-    elsewhere(said_of(call, n), slots)
+    elsewhere(phrase_of(call, n), slots)
 }

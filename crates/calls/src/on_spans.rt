@@ -1,5 +1,5 @@
-// What a call that asks no slot answers, where that is one text. Spans and encode say nothing here: the program puts what they answer.
-use answers::Said;
+// What a call that asks no slot answers, where that is one phrase. Spans and encode have an empty one here: the program puts what they answer.
+use answers::Phrase;
 use answers::is_taken;
 use answers::not_understood;
 use answers::of_answer;
@@ -7,10 +7,10 @@ use answers::of_found;
 use answers::text;
 use words::low_32;
 ghost use mathlib.Core.Path.{_≡_};
-ghost use Rattle.calls.specs.OnSpans.{lookupSaid, saidOf};
+ghost use Rattle.calls.specs.OnSpans.{lookupPhrase, phraseOf};
 
-fn lookup_said(protocol: u32, rate: u32, duration: u64) -> Said
-    ensures { λ r. ⌜ r ≡ lookupSaid protocol rate duration ⌝ }
+fn lookup_phrase(protocol: u32, rate: u32, duration: u64) -> Phrase
+    ensures { λ r. ⌜ r ≡ lookupPhrase protocol rate duration ⌝ }
 {
     let built = spans::spans_of(protocol, rate);
     let answer = built.answer;
@@ -21,11 +21,11 @@ fn lookup_said(protocol: u32, rate: u32, duration: u64) -> Said
     of_answer(answer)
 }
 
-pub fn said_of(call: usize, n: &[u64; 8]) -> Said
-    ensures { λ r. ⌜ r ≡ saidOf call (now (n .entry)) ⌝ }
+pub fn phrase_of(call: usize, n: &[u64; 8]) -> Phrase
+    ensures { λ r. ⌜ r ≡ phraseOf call (now (n .entry)) ⌝ }
 {
     if call == crate::LOOKUP {
-        return lookup_said(low_32(n[0]), low_32(n[1]), n[2]);
+        return lookup_phrase(low_32(n[0]), low_32(n[1]), n[2]);
     }
     if call < crate::OPEN {
         return text(0, 0);

@@ -1,4 +1,4 @@
--- Laws of bits at any place and width: a field of what `or` joins, a field behind a mask, bytes joined, complements.
+-- Laws of bits at any place and width: a field of what `or` joins, a field under a mask, bytes joined, complements.
 -- The operations work on each run of digits apart (lib.Bits), so a field passes through them. Assumes nothing.
 use mathlib.Core.Path.{_≡_, refl, sym, ap, ap₂, _∙_}
 use mathlib.Core.Bool.{Bool, true, false, not}
@@ -24,7 +24,7 @@ pub through-or : (f : ℕ → ℕ) → ((a b : ℕ) → f (bitOr a b) ≡ bitOr 
 through-or f e a b c d ep eq er es =
     e (bitOr (bitOr a b) c) d ∙ ap₂ bitOr (e (bitOr a b) c ∙ ap₂ bitOr (e a b ∙ ap₂ bitOr ep eq) er) es
 
--- a field of j bits from bit k: of what `or` joins; behind its mask; a single bit behind its mask
+-- a field of j bits from bit k: of what `or` joins; under its mask; a single bit under its mask
 pub field-or : (k j a b : ℕ) → bitOr a b / 2 ^ k % 2 ^ j ≡ bitOr (a / 2 ^ k % 2 ^ j) (b / 2 ^ k % 2 ^ j)
 field-or k j a b = ap (λ (x : ℕ). x % 2 ^ j) (or-shr a b k) ∙ or-mod (a / 2 ^ k) (b / 2 ^ k) j
 

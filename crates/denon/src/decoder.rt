@@ -7,7 +7,11 @@ use spans::Answer;
 use spans::Spans;
 ghost use mathlib.Core.Path.{_≡_};
 ghost use Prim.Native.Nat.{_≤_};
-ghost use Rattle.denon.specs.Decoder.{pastEnd, fromIdle, fromLast, fromBit, nextOf, kept, stood, refused, answered, fresh, eventIn, commandOf, resetOf, ruled, totalIn, newAt, eventOf, commandIn, resetIn, eventTotal};
+ghost use Rattle.refusals.specs.Refusals as refusal;
+ghost use Rattle.spans.specs.Spans.{ends, spansOf};
+ghost use Rattle.reports.specs.Edges.{edge};
+ghost use Rattle.reports.specs.Machine.{refused, eventAfter, answered, event, ruled, total};
+ghost use Rattle.denon.specs.Decoder.{pastEnd, fromIdle, fromLast, fromBit, nextOf, withSaved, machine, eventIn, totalIn, decoderOf, madeOf, eventOf, totalOf};
 
 pub enum DenonState {
     Idle,
@@ -135,8 +139,8 @@ fn from_bit(n: u8, place: u32, bits: u64) -> DenonMemory
 }
 
 // The same state and bits with another saved number.
-fn kept(m: DenonMemory, saved: u32) -> DenonMemory
-    ensures { λ r. ⌜ r ≡ kept m saved ⌝ }
+fn with_saved(m: DenonMemory, saved: u32) -> DenonMemory
+    ensures { λ r. ⌜ r ≡ withSaved m saved ⌝ }
 {
     let state = m.state;
     let bits = m.bits;
@@ -160,77 +164,77 @@ fn kept(m: DenonMemory, saved: u32) -> DenonMemory
 }
 
 // The status, and the memory made anew beside it: handed on whole it would be moved as bytes.
-fn stood(m: DenonMemory) -> DenonEventIn
-    ensures { λ r. ⌜ r ≡ stood m ⌝ }
+fn event_after(m: DenonMemory) -> DenonEventIn
+    ensures { λ r. ⌜ r ≡ eventIn (eventAfter machine m) ⌝ }
 {
     let state = m.state;
     match state {
         DenonState::Idle => DenonEventIn {
             status: Status::Idle,
-            memory: kept(m, m.saved),
+            memory: with_saved(m, m.saved),
         },
         DenonState::Data(_) => DenonEventIn {
             status: Status::Receiving,
-            memory: kept(m, m.saved),
+            memory: with_saved(m, m.saved),
         },
         DenonState::Done => DenonEventIn {
             status: Status::Done,
-            memory: kept(m, m.saved),
+            memory: with_saved(m, m.saved),
         },
     }
 }
 
 fn refused(m: DenonMemory) -> DenonEventIn
-    ensures { λ r. ⌜ r ≡ refused m ⌝ }
+    ensures { λ r. ⌜ r ≡ eventIn (refused refusal.pastEnd m) ⌝ }
 {
     DenonEventIn {
-        status: Status::Refused(4),
+        status: Status::Refused(refusals::PAST_END),
         memory: m,
     }
 }
 
 // A pulse at a rising edge.
 fn next_of(m: DenonMemory, place: u32) -> DenonEventIn
-    ensures { λ r. ⌜ r ≡ answered m (nextOf (m .state) place (m .bits)) ⌝ }
+    ensures { λ r. ⌜ r ≡ eventIn (answered machine m (nextOf (m .state) place (m .bits))) ⌝ }
 {
     let state = m.state;
     let bits = m.bits;
     match state {
-        DenonState::Idle => stood(from_idle(place, bits)),
+        DenonState::Idle => event_after(from_idle(place, bits)),
         DenonState::Data(n) => {
             if n < 47 {
-                stood(from_bit(n, place, bits))
+                event_after(from_bit(n, place, bits))
             } else if n == 47 {
-                stood(from_last(place, bits))
+                event_after(from_last(place, bits))
             } else {
                 refused(m)
             }
         }
-        DenonState::Done => stood(kept(m, 0)),
+        DenonState::Done => event_after(with_saved(m, 0)),
     }
 }
 
 // A falling edge.
 fn save(m: DenonMemory, duration: u32) -> DenonEventIn
-    ensures { λ r. ⌜ r ≡ answered m (kept m duration) ⌝ }
+    ensures { λ r. ⌜ r ≡ eventIn (answered machine m (withSaved m duration)) ⌝ }
 {
     let state = m.state;
     match state {
-        DenonState::Idle => stood(kept(m, duration)),
+        DenonState::Idle => event_after(with_saved(m, duration)),
         DenonState::Data(n) => {
             if n <= 47 {
-                stood(kept(m, duration))
+                event_after(with_saved(m, duration))
             } else {
                 refused(m)
             }
         }
-        DenonState::Done => stood(kept(m, duration)),
+        DenonState::Done => event_after(with_saved(m, duration)),
     }
 }
 
 // What a new decoder remembers.
 pub fn fresh() -> DenonMemory
-    ensures { λ r. ⌜ r ≡ fresh ⌝ }
+    ensures { λ r. ⌜ r ≡ machine .fresh ⌝ }
 {
     DenonMemory {
         state: DenonState::Idle,
@@ -247,7 +251,7 @@ pub fn event_in<'a>(
     rising: bool,
     duration: u32,
 ) -> DenonEventIn
-    ensures { λ r. ⌜ r ≡ eventIn (now (low .entry)) (now (high .entry)) m rising duration ⌝ }
+    ensures { λ r. ⌜ r ≡ eventIn (event machine (ends (now (low .entry)) (now (high .entry))) m (edge rising duration)) ⌝ }
 {
     if rising {
         let total = m.saved as u64 + duration as u64;
@@ -262,8 +266,8 @@ pub fn event_in<'a>(
     }
 }
 
-pub fn command_of(m: DenonMemory) -> Report
-    ensures { λ r. ⌜ r ≡ commandOf m ⌝ }
+pub fn command_in(m: DenonMemory) -> Report
+    ensures { λ r. ⌜ r ≡ machine .command m ⌝ }
 {
     let state = m.state;
     let bits = m.bits;
@@ -275,24 +279,24 @@ pub fn command_of(m: DenonMemory) -> Report
 }
 
 // All that was gathered is cleared.
-pub fn reset_of(m: DenonMemory) -> DenonMemory
-    ensures { λ r. ⌜ r ≡ resetOf m ⌝ }
+pub fn reset_in(m: DenonMemory) -> DenonMemory
+    ensures { λ r. ⌜ r ≡ machine .reset m ⌝ }
 {
     fresh()
 }
 
 // The rule of `reports` over what event_in answers. What is kept is made anew, so that it stays in registers.
 fn ruled(event: DenonEventIn) -> DenonTotalIn
-    ensures { λ r. ⌜ r ≡ ruled event ⌝ }
+    ensures { λ r. ⌜ r ≡ totalIn (ruled machine (event .status) (event .memory)) ⌝ }
 {
     let status = event.status;
     let after = event.memory;
-    let report = reports::report_of(status, command_of(after));
+    let report = reports::report_of(status, command_in(after));
     if reports::resets(status) {
-        let memory = reset_of(after);
+        let memory = reset_in(after);
         DenonTotalIn { report, memory }
     } else {
-        let memory = kept(after, after.saved);
+        let memory = with_saved(after, after.saved);
         DenonTotalIn { report, memory }
     }
 }
@@ -304,7 +308,7 @@ pub fn total_in<'a>(
     rising: bool,
     duration: u32,
 ) -> DenonTotalIn
-    ensures { λ r. ⌜ r ≡ totalIn (now (low .entry)) (now (high .entry)) m rising duration ⌝ }
+    ensures { λ r. ⌜ r ≡ totalIn (total machine (ends (now (low .entry)) (now (high .entry))) m (edge rising duration)) ⌝ }
 {
     ruled(event_in(low, high, m, rising, duration))
 }
@@ -312,7 +316,7 @@ pub fn total_in<'a>(
 impl DenonDecoder {
     // Refusal 1; the decoder then has the spans of the refused answer.
     pub fn new(rate: u32) -> DenonMade
-        ensures { λ r. ⌜ r ≡ newAt rate ⌝ }
+        ensures { λ r. ⌜ r ≡ madeOf (spansOf 5 rate) ⌝ }
     {
         let made = spans::spans_of(5, rate);
         let answer = made.answer;
@@ -326,7 +330,7 @@ impl DenonDecoder {
 
     // Refusal 4.
     pub fn event(self, rising: bool, duration: u32) -> DenonEvent
-        ensures { λ r. ⌜ r ≡ eventOf self rising duration ⌝ }
+        ensures { λ r. ⌜ r ≡ eventOf (self .spans) (event machine (self .spans) (self .memory) (edge rising duration)) ⌝ }
     {
         let spans = self.spans;
         let memory = self.memory;
@@ -343,18 +347,18 @@ impl DenonDecoder {
     }
 
     pub fn command(self) -> Report
-        ensures { λ r. ⌜ r ≡ commandIn self ⌝ }
+        ensures { λ r. ⌜ r ≡ machine .command (self .memory) ⌝ }
     {
         let memory = self.memory;
-        command_of(memory)
+        command_in(memory)
     }
 
     pub fn reset(self) -> DenonDecoder
-        ensures { λ r. ⌜ r ≡ resetIn self ⌝ }
+        ensures { λ r. ⌜ r ≡ decoderOf (self .spans) (machine .reset (self .memory)) ⌝ }
     {
         let spans = self.spans;
         let memory = self.memory;
-        let after = reset_of(memory);
+        let after = reset_in(memory);
         DenonDecoder {
             spans,
             memory: after,
@@ -363,7 +367,7 @@ impl DenonDecoder {
 
     // Refusal 4.
     pub fn event_total(self, rising: bool, duration: u32) -> DenonTotal
-        ensures { λ r. ⌜ r ≡ eventTotal self rising duration ⌝ }
+        ensures { λ r. ⌜ r ≡ totalOf (self .spans) (total machine (self .spans) (self .memory) (edge rising duration)) ⌝ }
     {
         let spans = self.spans;
         let memory = self.memory;

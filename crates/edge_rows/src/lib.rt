@@ -1,11 +1,11 @@
 // Edges in order to a decoder, and a line of text for each that is to be shown.
 use answers::is_nothing;
 use answers::of_report;
-use receiver::decoder::Decoder;
+use protocols::decoder::Decoder;
 use reports::Report;
 use rows::put_edge;
 ghost use mathlib.Core.Path.{_≡_};
-ghost use Rattle.reports.specs.Run.{edge, alternating};
+ghost use Rattle.reports.specs.Edges.{edge, alternating};
 ghost use Rattle.text.specs.Text.{putsOf};
 ghost use Rattle.edge_rows.specs.EdgeRows.{isShown, shownText, edgesText};
 

@@ -3,11 +3,11 @@ use mathlib.Core.Path.{_≡_, _∙_}
 use mathlib.Core.Bool.{true, false}
 use mathlib.Core.List.{List}
 use Prim.Native.Nat.{ℕ, _≤_, _<_}
-use borrow.Author.Tests.{lt-ltb, le-ltb}
+use borrow.Author.Tests.{lt-leb, le-leb}
 use lib.ListN.{length}
 use lib.Seq.{sets}
-use Rattle.spans.specs.Spans.{rateTaken}
-use Rattle.spans.proofs.Within.{within-true}
+use Rattle.refusals.specs.Refusals.{badRate, rateTaken}
+use Rattle.refusals.proofs.Within.{within-true}
 use Rattle.frames.specs.Frames.{encodedOf, leftOf}
 use Rattle.frames.specs.declared.Encoded.the-variants.{Wrote, Refused, Short}
 use Rattle.frames.proofs.Laid.{sets-onto}
@@ -16,17 +16,17 @@ pub rate-le : (rate : ℕ) → rateTaken rate ≡ true → rate ≤ 9673349
 rate-le rate taken = within-true 1 rate 9673349 taken .1
 
 module _ (rate : ℕ) (lent frame : List ℕ) where
-  pub refused : rateTaken rate ≡ false → (Refused 1 ≡ encodedOf rate lent frame) × (lent ≡ leftOf rate lent frame)
+  pub refused : rateTaken rate ≡ false → (Refused badRate ≡ encodedOf rate lent frame) × (lent ≡ leftOf rate lent frame)
   unfolding encodedOf leftOf
   refused out = (rw out, rw out)
 
   module _ (needed : ℕ) (counted : needed ≡ length frame) (taken : rateTaken rate ≡ true) where
     pub short : length lent < needed → (Short needed ≡ encodedOf rate lent frame) × (lent ≡ leftOf rate lent frame)
     unfolding encodedOf leftOf
-    short few = (rw (taken, ← counted, lt-ltb _ _ few), rw (taken, ← counted, lt-ltb _ _ few))
+    short few = (rw (taken, ← counted, lt-leb _ _ few), rw (taken, ← counted, lt-leb _ _ few))
 
     pub wrote : (left : List ℕ) → needed ≤ length lent → left ≡ sets lent 0 frame
         → (Wrote needed ≡ encodedOf rate lent frame) × (left ≡ leftOf rate lent frame)
     unfolding encodedOf leftOf
     wrote left room laid =
-        (rw (taken, ← counted, le-ltb _ _ room), laid ∙ sets-onto lent frame (rw counted at room) ∙ rw (taken, ← counted, le-ltb _ _ room))
+        (rw (taken, ← counted, le-leb _ _ room), laid ∙ sets-onto lent frame (rw counted at room) ∙ rw (taken, ← counted, le-leb _ _ room))

@@ -22,20 +22,20 @@ digits-differ (suc zero) (suc (suc y)) hx hy = absurd (omega arith)
 digits-differ (suc (suc x)) y hx hy = absurd (omega arith)
 
 -- whether the bit at a place equals the one above
-abbrev pub kept : ℕ → ℕ → Bool
-kept word place = Bool·beq (bitSet word (suc place)) (bitSet word place)
+abbrev pub sameAt : ℕ → ℕ → Bool
+sameAt word place = Bool·beq (bitSet word (suc place)) (bitSet word place)
 
 abbrev pub changes : ℕ → ℕ
 changes word = bitXor word (word / 2)
 
-pub change-at : (word place : ℕ) → changes word / 2 ^ place % 2 ≡ cond (kept word place) 0 1
+pub change-at : (word place : ℕ) → changes word / 2 ^ place % 2 ≡ cond (sameAt word place) 0 1
 change-at word place =
     ap (λ (n : ℕ). n % 2) (xor-shr word (word / 2) place) ∙ xor-mod (word / 2 ^ place) (word / 2 / 2 ^ place) 1
     ∙ ap (λ (n : ℕ). bitXor (word / 2 ^ place % 2) (n % 2)) (shr-shr word 1 place ∙ ap (λ (k : ℕ). word / 2 ^ k) (one-add place))
     ∙ digits-differ (word / 2 ^ place % 2) (word / 2 ^ suc place % 2) (mod-lt (word / 2 ^ place) (omega arith)) (mod-lt (word / 2 ^ suc place) (omega arith))
 
-pub changed : (word place : ℕ) → bitSet (changes word) place ≡ not (kept word place)
-changed word place = ap (λ (n : ℕ). eqb n 1) (change-at word place) ∙ go (kept word place)
+pub changed : (word place : ℕ) → bitSet (changes word) place ≡ not (sameAt word place)
+changed word place = ap (λ (n : ℕ). eqb n 1) (change-at word place) ∙ go (sameAt word place)
   where
     go : (same : Bool) → eqb (cond same 0 1) 1 ≡ not same
     go true = refl
@@ -54,12 +54,12 @@ unfolding ones
 ones-of-one true = refl
 ones-of-one false = refl
 
-pub one-more : (word left : ℕ) → changesBelow word (suc left) ≡ cond (kept word left) 0 1 + changesBelow word left
+pub one-more : (word left : ℕ) → changesBelow word (suc left) ≡ cond (sameAt word left) 0 1 + changesBelow word left
 one-more word left =
     ap (λ (k : ℕ). ones (changes word % 2 ^ k)) (sym (one-add left)) ∙ ap ones (mod-pow-add (changes word) 1 left)
     ∙ ap (λ (n : ℕ). ones (n * 2 ^ left + changes word % 2 ^ left)) (change-at word left)
-    ∙ ones-cat left (cond (kept word left) 0 1) (changes word % 2 ^ left) (mod-lt (changes word) (pow-pos left))
-    ∙ ap (λ (n : ℕ). n + changesBelow word left) (ones-of-one (kept word left))
+    ∙ ones-cat left (cond (sameAt word left) 0 1) (changes word % 2 ^ left) (mod-lt (changes word) (pow-pos left))
+    ∙ ap (λ (n : ℕ). n + changesBelow word left) (ones-of-one (sameAt word left))
 
 pub below-le : (word left : ℕ) → changesBelow word left ≤ left
 below-le word left = ones-le left (changes word % 2 ^ left) (mod-lt (changes word) (pow-pos left))

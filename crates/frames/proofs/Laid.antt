@@ -8,7 +8,7 @@ use lib.ListN.{length, set}
 use lib.Seq.{sets, sets-eq, length-sets}
 use Rattle.frames.specs.Frames.{onto}
 
--- two runs, the second right behind the first, are one
+-- two runs, the second right after the first, are one
 pub sets-append : (lent : List ℕ) (at : ℕ) (run more : List ℕ) → sets lent at (run ++ more) ≡ sets (sets lent at run) (at + length run) more
 sets-append lent at [] more = rw add-zero
 sets-append lent at (d ∷ run) more = rw (add-suc, ← suc-add) (sets-append (set lent at d) (suc at) run more)

@@ -4,7 +4,8 @@ use mathlib.Core.List.{List, [], _∷_, _++_}
 use mathlib.Core.Bool.{Bool, cond}
 use lib.Dec.{ltb, eqb}
 use lib.ListN.{length, drop}
-use Rattle.spans.specs.Spans.{rateTaken}
+use Rattle.refusals.specs.Refusals as refusal
+use Rattle.refusals.specs.Refusals.{inOrder, frameTests}
 use Rattle.frames.specs.declared.Encoded.{Encoded}
 use Rattle.frames.specs.declared.Encoded.the-variants.{Wrote, Refused, Short}
 
@@ -26,14 +27,14 @@ pairsFrom mark short long bits zero place = []
 pairsFrom mark short long bits (suc left) place =
     pairOf mark short long (bitSet bits place) ++ pairsFrom mark short long bits left (place + 1)
 
--- refusal 3: "buffer shorter than the frame"
-abbrev pub tooShort : List ℕ → List ℕ → Bool
-tooShort lent frame = ltb (length lent) (length frame)
+-- what comes back where a frame of a length is refused: with 3 "the number and the length needed", else the number
+abbrev pub refusedFor : ℕ → ℕ → Encoded
+refusedFor length number = cond (eqb number refusal.shortBuffer) (Short length) (Refused number)
 
--- the answer for a rate, a lent buffer and a frame: refusal 1; refusal 3 and "the length needed"; or the count written
+-- the answer for a rate, a lent buffer and a frame: refusals 1, then 3; or the count written
 unfoldable pub encodedOf : ℕ → List ℕ → List ℕ → Encoded
 encodedOf rate lent frame =
-    cond (rateTaken rate) (cond (tooShort lent frame) (Short (length frame)) (Wrote (length frame))) (Refused 1)
+    inOrder (frameTests rate (length lent) (length frame)) (refusedFor (length frame)) (Wrote (length frame))
 
 -- "places past the frame keep their contents"
 abbrev pub onto : List ℕ → List ℕ → List ℕ
@@ -41,13 +42,13 @@ onto frame lent = frame ++ drop (length frame) lent
 
 -- what the lent buffer holds at exit: "buffer untouched" where refused, else the frame
 unfoldable pub leftOf : ℕ → List ℕ → List ℕ → List ℕ
-leftOf rate lent frame = cond (rateTaken rate) (cond (tooShort lent frame) lent (onto frame lent)) lent
+leftOf rate lent frame = inOrder (frameTests rate (length lent) (length frame)) (λ number. lent) (onto frame lent)
 
 -- document 01's number of an answer; 0 where nothing is refused
 abbrev pub encodedNumber : Encoded → ℕ
-encodedNumber (Wrote count) = 0
+encodedNumber (Wrote count) = refusal.none
 encodedNumber (Refused number) = number
-encodedNumber (Short needed) = 3
+encodedNumber (Short needed) = refusal.shortBuffer
 
 -- the frame's length that an answer carries: the count written, or the length needed; refusals 1 and 2 carry none
 abbrev pub encodedLength : Encoded → ℕ

@@ -8,7 +8,11 @@ use spans::Answer;
 use spans::Spans;
 ghost use mathlib.Core.Path.{_≡_};
 ghost use Prim.Native.Nat.{_≤_};
-ghost use Rattle.nec.specs.Decoder.{pastEnd, fromInit, fromReceiving, nextOf, kept, stood, refused, answered, fresh, eventIn, commandOf, resetOf, ruled, totalIn, newAt, eventOf, commandIn, resetIn, eventTotal};
+ghost use Rattle.refusals.specs.Refusals as refusal;
+ghost use Rattle.spans.specs.Spans.{ends, spansOf};
+ghost use Rattle.reports.specs.Edges.{edge};
+ghost use Rattle.reports.specs.Machine.{refused, eventAfter, answered, event, ruled, total};
+ghost use Rattle.nec.specs.Decoder.{pastEnd, fromInit, fromReceiving, nextOf, withSaved, machine, eventIn, totalIn, decoderOf, eventOf, totalOf, madeOf};
 
 pub enum NecState {
     Init,
@@ -146,8 +150,8 @@ fn from_last(place: u32, bits: u32) -> NecMemory
 }
 
 // The same state and bits with another saved number.
-fn kept(m: NecMemory, saved: u32) -> NecMemory
-    ensures { λ r. ⌜ r ≡ kept m saved ⌝ }
+fn with_saved(m: NecMemory, saved: u32) -> NecMemory
+    ensures { λ r. ⌜ r ≡ withSaved m saved ⌝ }
 {
     let state = m.state;
     let bits = m.bits;
@@ -181,89 +185,89 @@ fn kept(m: NecMemory, saved: u32) -> NecMemory
 }
 
 // The status, and the memory made anew beside it: bits and saved number, handed on together, would be moved as one number.
-fn stood(m: NecMemory) -> NecEventIn
-    ensures { λ r. ⌜ r ≡ stood m ⌝ }
+fn event_after(m: NecMemory) -> NecEventIn
+    ensures { λ r. ⌜ r ≡ eventIn (eventAfter machine m) ⌝ }
 {
     let state = m.state;
     match state {
         NecState::Init => NecEventIn {
             status: Status::Idle,
-            memory: kept(m, m.saved),
+            memory: with_saved(m, m.saved),
         },
         NecState::Receiving(_) => NecEventIn {
             status: Status::Receiving,
-            memory: kept(m, m.saved),
+            memory: with_saved(m, m.saved),
         },
         NecState::Done => NecEventIn {
             status: Status::Done,
-            memory: kept(m, m.saved),
+            memory: with_saved(m, m.saved),
         },
         NecState::RepeatDone => NecEventIn {
             status: Status::Done,
-            memory: kept(m, m.saved),
+            memory: with_saved(m, m.saved),
         },
         NecState::Error(fault) => NecEventIn {
             status: Status::Error(fault),
-            memory: kept(m, m.saved),
+            memory: with_saved(m, m.saved),
         },
     }
 }
 
 fn refused(m: NecMemory) -> NecEventIn
-    ensures { λ r. ⌜ r ≡ refused m ⌝ }
+    ensures { λ r. ⌜ r ≡ eventIn (refused refusal.pastEnd m) ⌝ }
 {
     NecEventIn {
-        status: Status::Refused(4),
+        status: Status::Refused(refusals::PAST_END),
         memory: m,
     }
 }
 
 // A pulse at a rising edge.
 fn next_of(m: NecMemory, place: u32) -> NecEventIn
-    ensures { λ r. ⌜ r ≡ answered m (nextOf (m .state) place (m .bits)) ⌝ }
+    ensures { λ r. ⌜ r ≡ eventIn (answered machine m (nextOf (m .state) place (m .bits))) ⌝ }
 {
     let state = m.state;
     let bits = m.bits;
     match state {
-        NecState::Init => stood(from_init(place, bits)),
+        NecState::Init => event_after(from_init(place, bits)),
         NecState::Receiving(n) => {
             if n < 31 {
-                stood(from_bit(n, place, bits))
+                event_after(from_bit(n, place, bits))
             } else if n == 31 {
-                stood(from_last(place, bits))
+                event_after(from_last(place, bits))
             } else {
                 refused(m)
             }
         }
-        NecState::Done => stood(kept(m, 0)),
-        NecState::RepeatDone => stood(kept(m, 0)),
-        NecState::Error(_) => stood(kept(m, 0)),
+        NecState::Done => event_after(with_saved(m, 0)),
+        NecState::RepeatDone => event_after(with_saved(m, 0)),
+        NecState::Error(_) => event_after(with_saved(m, 0)),
     }
 }
 
 // A falling edge.
 fn save(m: NecMemory, duration: u32) -> NecEventIn
-    ensures { λ r. ⌜ r ≡ answered m (kept m duration) ⌝ }
+    ensures { λ r. ⌜ r ≡ eventIn (answered machine m (withSaved m duration)) ⌝ }
 {
     let state = m.state;
     match state {
-        NecState::Init => stood(kept(m, duration)),
+        NecState::Init => event_after(with_saved(m, duration)),
         NecState::Receiving(n) => {
             if n <= 31 {
-                stood(kept(m, duration))
+                event_after(with_saved(m, duration))
             } else {
                 refused(m)
             }
         }
-        NecState::Done => stood(kept(m, duration)),
-        NecState::RepeatDone => stood(kept(m, duration)),
-        NecState::Error(_) => stood(kept(m, duration)),
+        NecState::Done => event_after(with_saved(m, duration)),
+        NecState::RepeatDone => event_after(with_saved(m, duration)),
+        NecState::Error(_) => event_after(with_saved(m, duration)),
     }
 }
 
 // What a new decoder remembers.
 pub fn fresh() -> NecMemory
-    ensures { λ r. ⌜ r ≡ fresh ⌝ }
+    ensures { λ r. ⌜ r ≡ machine .fresh ⌝ }
 {
     NecMemory {
         state: NecState::Init,
@@ -280,7 +284,7 @@ pub fn event_in<'a>(
     rising: bool,
     duration: u32,
 ) -> NecEventIn
-    ensures { λ r. ⌜ r ≡ eventIn (now (low .entry)) (now (high .entry)) m rising duration ⌝ }
+    ensures { λ r. ⌜ r ≡ eventIn (event machine (ends (now (low .entry)) (now (high .entry))) m (edge rising duration)) ⌝ }
 {
     if rising {
         let total = m.saved as u64 + duration as u64;
@@ -296,8 +300,8 @@ pub fn event_in<'a>(
     }
 }
 
-pub fn command_of(m: NecMemory) -> Report
-    ensures { λ r. ⌜ r ≡ commandOf m ⌝ }
+pub fn command_in(m: NecMemory) -> Report
+    ensures { λ r. ⌜ r ≡ machine .command m ⌝ }
 {
     let state = m.state;
     let bits = m.bits;
@@ -311,8 +315,8 @@ pub fn command_of(m: NecMemory) -> Report
 }
 
 // The bits are kept: a repeat shows what they last held.
-pub fn reset_of(m: NecMemory) -> NecMemory
-    ensures { λ r. ⌜ r ≡ resetOf m ⌝ }
+pub fn reset_in(m: NecMemory) -> NecMemory
+    ensures { λ r. ⌜ r ≡ machine .reset m ⌝ }
 {
     NecMemory {
         state: NecState::Init, // ready for the next frame
@@ -323,16 +327,16 @@ pub fn reset_of(m: NecMemory) -> NecMemory
 
 // The rule of `reports` over what event_in answers. What is kept is made anew, so that it stays in registers.
 fn ruled(event: NecEventIn) -> NecTotalIn
-    ensures { λ r. ⌜ r ≡ ruled event ⌝ }
+    ensures { λ r. ⌜ r ≡ totalIn (ruled machine (event .status) (event .memory)) ⌝ }
 {
     let status = event.status;
     let after = event.memory;
-    let report = reports::report_of(status, command_of(after));
+    let report = reports::report_of(status, command_in(after));
     if reports::resets(status) {
-        let memory = reset_of(after);
+        let memory = reset_in(after);
         NecTotalIn { report, memory }
     } else {
-        let memory = kept(after, after.saved);
+        let memory = with_saved(after, after.saved);
         NecTotalIn { report, memory }
     }
 }
@@ -344,7 +348,7 @@ pub fn total_in<'a>(
     rising: bool,
     duration: u32,
 ) -> NecTotalIn
-    ensures { λ r. ⌜ r ≡ totalIn (now (low .entry)) (now (high .entry)) m rising duration ⌝ }
+    ensures { λ r. ⌜ r ≡ totalIn (total machine (ends (now (low .entry)) (now (high .entry))) m (edge rising duration)) ⌝ }
 {
     ruled(event_in(low, high, m, rising, duration))
 }
@@ -352,7 +356,7 @@ pub fn total_in<'a>(
 impl NecDecoder {
     // Refusal 1; the decoder then has the spans of the refused answer.
     pub fn new(rate: u32) -> NecMade
-        ensures { λ r. ⌜ r ≡ newAt rate ⌝ }
+        ensures { λ r. ⌜ r ≡ madeOf (spansOf 1 rate) ⌝ }
     {
         let made = spans::spans_of(1, rate);
         let answer = made.answer;
@@ -366,7 +370,7 @@ impl NecDecoder {
 
     // Refusal 4.
     pub fn event(self, rising: bool, duration: u32) -> NecEvent
-        ensures { λ r. ⌜ r ≡ eventOf self rising duration ⌝ }
+        ensures { λ r. ⌜ r ≡ eventOf (self .spans) (event machine (self .spans) (self .memory) (edge rising duration)) ⌝ }
     {
         let spans = self.spans;
         let memory = self.memory;
@@ -383,18 +387,18 @@ impl NecDecoder {
     }
 
     pub fn command(self) -> Report
-        ensures { λ r. ⌜ r ≡ commandIn self ⌝ }
+        ensures { λ r. ⌜ r ≡ machine .command (self .memory) ⌝ }
     {
         let memory = self.memory;
-        command_of(memory)
+        command_in(memory)
     }
 
     pub fn reset(self) -> NecDecoder
-        ensures { λ r. ⌜ r ≡ resetIn self ⌝ }
+        ensures { λ r. ⌜ r ≡ decoderOf (self .spans) (machine .reset (self .memory)) ⌝ }
     {
         let spans = self.spans;
         let memory = self.memory;
-        let after = reset_of(memory);
+        let after = reset_in(memory);
         NecDecoder {
             spans,
             memory: after,
@@ -403,7 +407,7 @@ impl NecDecoder {
 
     // Refusal 4.
     pub fn event_total(self, rising: bool, duration: u32) -> NecTotal
-        ensures { λ r. ⌜ r ≡ eventTotal self rising duration ⌝ }
+        ensures { λ r. ⌜ r ≡ totalOf (self .spans) (total machine (self .spans) (self .memory) (edge rising duration)) ⌝ }
     {
         let spans = self.spans;
         let memory = self.memory;

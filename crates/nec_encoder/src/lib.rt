@@ -29,7 +29,7 @@ fn put_bit(out: &mut [u32], at: usize, short: u32, long: u32, one: bool)
     }
 }
 
-// The pairs of the 32 bits, behind the leader and the pause.
+// The pairs of the 32 bits, after the leader and the pause.
 fn put_bits(out: &mut [u32], short: u32, long: u32, bits: u32)
     requires { ⌜ 67 ≤ length (now out) ⌝ }
     ensures { λ _. ⌜ now (out .exit) ≡ sets (now (out .entry)) 3 (pairsFrom short short long bits 32 0) ⌝ }
@@ -63,8 +63,8 @@ pub fn encode(command: NecCommand, rate: u32, out: &mut [u32]) -> Encoded
     ensures answer { λ r. ⌜ r ≡ encodedOf rate (now (out .entry)) (necFrame command rate) ⌝ }
     ensures left { λ _. ⌜ now (out .exit) ≡ leftOf rate (now (out .entry)) (necFrame command rate) ⌝ }
 {
-    if !spans::rate_taken(rate) {
-        return Encoded::Refused(1);
+    if !refusals::rate_taken(rate) {
+        return Encoded::Refused(refusals::BAD_RATE);
     }
     if out.len() < 67 {
         return Encoded::Short(67);

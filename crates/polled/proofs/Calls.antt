@@ -27,9 +27,9 @@ use denote.Triple.Clauses.{ensured, lasts}
 use Rattle.polled.specs.PolledSteps.{stepOf}
 use Rattle.polled.specs.declared.Polled.{Polled}
 use Rattle.polled.specs.declared.Stepped.{Stepped}
-use Rattle.receiver.specs.declared.decoder.Memory.{Memory as Held}
-use Rattle.receiver.proofs.decoder.Memory as N
-use Rattle.receiver.proofs.decoder.Memory.Laws as N′
+use Rattle.protocols.specs.declared.decoder.Memory.{Memory as Held}
+use Rattle.protocols.proofs.decoder.Memory as N
+use Rattle.protocols.proofs.decoder.Memory.Laws as N′
 use Rattle.polled.proofs.step as step
 use Rattle.polled.proofs.Record.{Fields, Ends, held}
 use Rattle.polled.proofs.Ends.{array, low-at, high-at}
@@ -45,11 +45,11 @@ module _ {M : Type 1} (𝓤 : URA M) (H : Heap 𝓤) (A : Atoms 𝓤) (W : Given
   high = array b (high-at o) δ (h .decoder .spans .high)
 
   abbrev pub passed : RefT (List ℕ) × (RefT (List ℕ) × (Held × (ℕ × (ℕ × (Bool × (Bool × Unit {0}))))))
-  passed = (low, (high, (h .decoder .memory, (h .clock, (h .edge, (h .level, (l, tt)))))))
+  passed = (low, (high, (h .decoder .memory, (h .clock, (h .«last_edge», (h .level, (l, tt)))))))
 
   abbrev pub to-step : Step 𝓤 H A at-mem run .Ghost
   to-step =
-      (((ν ∷ [], tt), (fullShare, tt), tt, passed, (vptr b (low-at o) ∷ [], (vptr b (high-at o) ∷ [], (held (h .decoder .memory) ∷ [], (vint w32 (h .clock) ∷ [], (vint w32 (h .edge) ∷ [], (vbool (h .level) ∷ [], (vbool l ∷ [], tt)))))))), tt)
+      (((ν ∷ [], tt), (fullShare, tt), tt, passed, (vptr b (low-at o) ∷ [], (vptr b (high-at o) ∷ [], (held (h .decoder .memory) ∷ [], (vint w32 (h .clock) ∷ [], (vint w32 (h .«last_edge») ∷ [], (vbool (h .level) ∷ [], (vbool l ∷ [], tt)))))))), tt)
 
   pub steps-in : Fields h
       → ent 𝓤 (⋆ 𝓤 H A (‵ (ShrRef (named 0) (ν ∷ []) Ends .own low (vptr b (low-at o) ∷ [])) ∷ ‵ (ShrRef (named 0) (ν ∷ []) Ends .own high (vptr b (high-at o) ∷ [])) ∷ ‵ (flft (ν ∷ []) fullShare) ∷ []))
@@ -57,7 +57,7 @@ module _ {M : Type 1} (𝓤 : URA M) (H : Heap 𝓤) (A : Atoms 𝓤) (W : Given
   steps-in f =
       qed W (‵ (ShrRef (named 0) (ν ∷ []) Ends .own low (vptr b (low-at o) ∷ [])) ∷ ‵ (ShrRef (named 0) (ν ∷ []) Ends .own high (vptr b (high-at o) ∷ [])) ∷ ‵ (flft (ν ∷ []) fullShare) ∷ []) ∵
       nothing ! $ owned ! bool (Is bool) (bool-makes 𝓤 H A W) l _ refl $ fjoin ! $ owned ! bool (Is bool) (bool-makes 𝓤 H A W) (h .level) _ refl $ fjoin ! $
-      owned ! u32 (Is u32) (uint-makes 𝓤 H A W w32) (h .edge) _ (f .4) $ fjoin ! $ owned ! u32 (Is u32) (uint-makes 𝓤 H A W w32) (h .clock) _ (f .3) $ fjoin ! $
+      owned ! u32 (Is u32) (uint-makes 𝓤 H A W w32) (h .«last_edge») _ (f .4) $ fjoin ! $ owned ! u32 (Is u32) (uint-makes 𝓤 H A W w32) (h .clock) _ (f .3) $ fjoin ! $
       owned ! N.the-row (Is N.the-row) (EL.makes N.the-type N′.the-plain 𝓤 H A) (h .decoder .memory) _ (f .2) $ fjoin ! $
       move ! (2 ∷ 0 ∷ []) $ fjoin ! $ move ! (1 ∷ 0 ∷ []) $ fjoin ! $ nothing ! $ move ! (2 ∷ 0 ∷ []) $ join ! $ join ! $ frame ! $ done !
 

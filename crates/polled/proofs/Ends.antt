@@ -65,7 +65,7 @@ module _ {M : Type 1} (𝓤 : URA M) (H : Heap 𝓤) (A : Atoms 𝓤) (W : Given
   -- the two arrays out of the record's cell, and the way back
   module _ (h : Polled) (b o : ℕ) where
     abbrev Whole : Val → SProp 𝓤
-    Whole u = wand 𝓤 (H .at fullShare decoder-ty b (decoder-at o) u) (H .at fullShare polled-ty b o (vstruct (vcons u (vcons (vint w32 (h .clock)) (vcons (vint w32 (h .edge)) (vcons (vbool (h .level)) vnil))))))
+    Whole u = wand 𝓤 (H .at fullShare decoder-ty b (decoder-at o) u) (H .at fullShare polled-ty b o (vstruct (vcons u (vcons (vint w32 (h .clock)) (vcons (vint w32 (h .«last_edge»)) (vcons (vbool (h .level)) vnil))))))
 
     abbrev Coder : Val → SProp 𝓤
     Coder u = wand 𝓤 (H .at fullShare spans-ty b (spans-at o) u) (H .at fullShare decoder-ty b (decoder-at o) (vstruct (vcons u (vcons (held (h .decoder .memory)) vnil))))

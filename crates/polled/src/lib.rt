@@ -1,19 +1,20 @@
 // Document 01, "The polled receiver". One poll is `step`, by value; `poll_by_value` and `poll`, which is lent the one record that the caller keeps, are thin over it.
-use receiver::decoder::Decoder;
-use receiver::decoder::Memory;
-use receiver::decoder::past_end;
-use receiver::decoder::total_in;
+use protocols::decoder::Decoder;
+use protocols::decoder::Memory;
+use protocols::decoder::past_end;
+use protocols::decoder::total_in;
 use reports::Report;
 use spans::Answer;
 ghost use mathlib.Core.Path.{_≡_};
+ghost use Rattle.spans.specs.Spans.{ends};
 ghost use Rattle.polled.specs.Polled.{polledAt, pollOf};
-ghost use Rattle.polled.specs.PolledSteps.{receiverOf, keptPart, stepOf};
+ghost use Rattle.polled.specs.PolledSteps.{receiverOf, partWithoutEdge, stepOf};
 
 // The decoder, the clock, the time of the last edge and the last level.
 pub struct Polled {
     pub decoder: Decoder,
     pub clock: u32,
-    pub edge: u32,
+    pub last_edge: u32,
     pub level: bool,
 }
 
@@ -31,7 +32,7 @@ pub struct PolledTotal {
 struct Stepped {
     report: Report,
     clock: u32,
-    edge: u32,
+    last_edge: u32,
     level: bool,
     memory: Memory,
 }
@@ -49,7 +50,7 @@ impl Polled {
             receiver: Polled {
                 decoder,
                 clock: 0,
-                edge: 0,
+                last_edge: 0,
                 level: false,
             },
         }
@@ -67,7 +68,7 @@ impl Polled {
             &spans.high,
             memory,
             self.clock,
-            self.edge,
+            self.last_edge,
             self.level,
             level,
         );
@@ -79,7 +80,7 @@ impl Polled {
             receiver: Polled {
                 decoder,
                 clock: after.clock,
-                edge: after.edge,
+                last_edge: after.last_edge,
                 level: after.level,
             },
         }
@@ -87,13 +88,13 @@ impl Polled {
 }
 
 // A poll that hands nothing to the decoder.
-fn kept(report: Report, clock: u32, edge: u32, level: bool, memory: Memory) -> Stepped
-    ensures { λ r. ⌜ r ≡ keptPart report clock edge level memory ⌝ }
+fn without_edge(report: Report, clock: u32, last_edge: u32, level: bool, memory: Memory) -> Stepped
+    ensures { λ r. ⌜ r ≡ partWithoutEdge report clock «last_edge» level memory ⌝ }
 {
     Stepped {
         report,
         clock,
-        edge,
+        last_edge,
         level,
         memory,
     }
@@ -105,27 +106,33 @@ fn step<'a>(
     high: &'a [u32; 8],
     memory: Memory,
     clock: u32,
-    edge: u32,
+    last_edge: u32,
     was: bool,
     level: bool,
 ) -> Stepped
-    ensures { λ r. ⌜ r ≡ stepOf (receiverOf (now (low .entry)) (now (high .entry)) memory clock edge was) level ⌝ }
+    ensures { λ r. ⌜ r ≡ stepOf (receiverOf (ends (now (low .entry)) (now (high .entry))) memory clock «last_edge» was) level ⌝ }
 {
     if past_end(memory) {
-        return kept(Report::Refused(4), clock, edge, was, memory);
+        return without_edge(
+            Report::Refused(refusals::PAST_END),
+            clock,
+            last_edge,
+            was,
+            memory,
+        );
     }
     let ticked = std::num::wrapping_add_u32(clock, 1);
     if was == level {
-        return kept(Report::Nothing, ticked, edge, was, memory);
+        return without_edge(Report::Nothing, ticked, last_edge, was, memory);
     }
-    let run = std::num::wrapping_sub_u32(ticked, edge);
+    let run = std::num::wrapping_sub_u32(ticked, last_edge);
     let total = total_in(low, high, memory, level, run);
     let report = total.report;
     let after = total.memory;
     Stepped {
         report,
         clock: ticked,
-        edge: ticked,
+        last_edge: ticked,
         level,
         memory: after,
     }
@@ -137,19 +144,19 @@ pub fn poll(receiver: &mut Polled, level: bool) -> Report
 {
     let memory = receiver.decoder.memory;
     let clock = receiver.clock;
-    let edge = receiver.edge;
+    let last_edge = receiver.last_edge;
     let was = receiver.level;
     let after = step(
         &receiver.decoder.spans.low,
         &receiver.decoder.spans.high,
         memory,
         clock,
-        edge,
+        last_edge,
         was,
         level,
     );
     receiver.clock = after.clock;
-    receiver.edge = after.edge;
+    receiver.last_edge = after.last_edge;
     receiver.level = after.level;
     if was == level {
         return after.report;
@@ -162,10 +169,10 @@ pub fn poll(receiver: &mut Polled, level: bool) -> Report
 pub fn poll_through(receiver: Polled, level: bool) -> PolledTotal
     ensures { λ r. ⌜ r ≡ pollOf receiver level ⌝ }
 {
-    let mut kept = receiver;
-    let report = poll(&mut kept, level);
+    let mut lent = receiver;
+    let report = poll(&mut lent, level);
     PolledTotal {
         report,
-        receiver: kept,
+        receiver: lent,
     }
 }

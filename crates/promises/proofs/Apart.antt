@@ -5,19 +5,22 @@ use mathlib.Core.Bool.{cond}
 use mathlib.Core.List.{List}
 use Prim.Native.Nat.{ℕ, zero, suc, _+_}
 use native.Mathlib.Omega.{arith}
-use lib.Dec.{eqb}
+use lib.Dec.{eqb, leb}
+use lib.ListN.{length}
 use borrow.Author.Tests.{ne-eqb}
-use Rattle.spans.specs.Spans.{protocolTaken, rateTaken, spansOf, refusalNumber}
-use Rattle.spans.specs.Lookup.{holds, lowestFrom, lookupIn, none, placeOf}
+use Rattle.refusals.specs.Refusals.{protocolTaken, encodeTaken, rateTaken}
+use Rattle.spans.specs.Spans.{spansOf, refusalNumber}
+use Rattle.spans.specs.Lookup.{holds, lowestFrom, lookupOf, none, placeOf}
+use Rattle.spans.specs.declared.Spans.{Spans}
 use Rattle.spans.specs.declared.Answer.{Answer}
 use Rattle.spans.specs.declared.Answer.the-variants as answer
 use Rattle.spans.specs.declared.Found.{Found}
-use Rattle.spans.specs.declared.Found.the-variants.{At, Nothing}
+use Rattle.spans.specs.declared.Found.the-variants.{At, None}
 use Rattle.spans.specs.declared.SpansAnswer.{SpansAnswer}
-use Rattle.frames.specs.Frames.{tooShort, encodedOf, encodedNumber, encodedLength}
+use Rattle.frames.specs.Frames.{encodedNumber, encodedLength}
 use Rattle.frames.specs.declared.Encoded.{Encoded}
 use Rattle.frames.specs.declared.Encoded.the-variants.{Wrote, Refused, Short}
-use Rattle.receiver.specs.Encoder.{encodeTaken, encodedBy}
+use Rattle.protocols.specs.Encoder.{encodedBy}
 use Rattle.reports.proofs.Either.{either}
 
 -- ---- encode: 0 and the count written; 3 and the length needed; another refusal
@@ -32,10 +35,10 @@ pub encoded-back
     : (protocol rate : ℕ) (lent frame : List ℕ)
     → encodedFrom (encodedNumber (encodedBy protocol rate lent frame)) (encodedLength (encodedBy protocol rate lent frame))
     ≡ encodedBy protocol rate lent frame
-unfolding encodedOf
+unfolding encodedBy
 encoded-back protocol rate lent frame =
     either EncodedBack (encodeTaken protocol)
-    (either EncodedBack (rateTaken rate) (either EncodedBack (tooShort lent frame) refl refl) refl) refl
+    (either EncodedBack (rateTaken rate) (either EncodedBack (leb (length frame) (length lent)) refl refl) refl) refl
 
 -- ---- spans_of: 0 where nothing is refused
 
@@ -52,17 +55,17 @@ answer-back protocol rate = either AnswerBack (protocolTaken protocol) (either A
 -- ---- the lookup: 8 where no span holds the duration
 
 abbrev pub foundFrom : ℕ → Found
-foundFrom place = cond (eqb place none) Nothing (At place)
+foundFrom place = cond (eqb place none) None (At place)
 
 abbrev FoundBack : Found → Type 0
 FoundBack f = foundFrom (placeOf f) ≡ f
 
-module _ (low high : List ℕ) (duration : ℕ) where
-  lowest-back : (left place : ℕ) → place + left ≡ 8 → FoundBack (lowestFrom low high duration left place)
+module _ (spans : Spans) (duration : ℕ) where
+  lowest-back : (left place : ℕ) → place + left ≡ 8 → FoundBack (lowestFrom spans duration left place)
   unfolding lowestFrom
   lowest-back zero place e = refl
   lowest-back (suc left) place e =
-      either FoundBack (holds low high duration place) (rw (ne-eqb place 8 (λ same. omega arith))) (lowest-back left (place + 1) (omega arith))
+      either FoundBack (holds spans duration place) (rw (ne-eqb place 8 (λ same. omega arith))) (lowest-back left (place + 1) (omega arith))
 
-  pub found-back : foundFrom (placeOf (lookupIn low high duration)) ≡ lookupIn low high duration
+  pub found-back : foundFrom (placeOf (lookupOf spans duration)) ≡ lookupOf spans duration
   found-back = lowest-back 8 0 refl

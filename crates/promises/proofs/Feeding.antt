@@ -9,13 +9,15 @@ use native.Mathlib.Omega.{arith}
 use lib.Dec.{eqb}
 use lib.ListN.{length, getD, drop, drop-of-length-le}
 use lib.Seq.{drop-cons, drop-drop}
-use Rattle.reports.specs.Run.{Edge, edge, runReports, runAfter, alternating}
+use Rattle.reports.specs.Edges.{Edge, edge, alternating}
+use Rattle.reports.specs.Machine.{runReports, runAfter}
 use Rattle.reports.specs.declared.Report.{Report}
 use Rattle.reports.specs.declared.Report.the-variants as report
-use Rattle.receiver.specs.Decoder.{eventTotal, reportsOf, decoderAfter}
-use Rattle.receiver.specs.declared.decoder.Decoder.{Decoder}
-use Rattle.receiver.specs.declared.decoder.Total.{Total}
-use Rattle.promises.specs.Send.{cameAs, wronged, noneYet, told, noted, notedAll, answerOf, summaryOf, heardOf}
+use Rattle.reports.proofs.Edges.{next-edge, no-edge}
+use Rattle.protocols.specs.Decoder.{edgeTotal, reportsOf, decoderAfter}
+use Rattle.protocols.specs.declared.decoder.Decoder.{Decoder}
+use Rattle.protocols.specs.declared.decoder.Total.{Total}
+use Rattle.promises.specs.Send.{cameAs, deviated, noneYet, noteSome, noted, notedAll, answerOf, summaryOf, heardOf}
 use Rattle.promises.specs.declared.send.Later.{Later}
 use Rattle.promises.specs.declared.send.Sent.{Sent}
 
@@ -23,7 +25,7 @@ use Rattle.promises.specs.declared.send.Sent.{Sent}
 pub others-next : (later then : Later) (number : ℕ) (r : Report) → then ≡ noted later number r → then .others ≤ later .others + 1
 others-next later then number r e = rw e (all r)
   where
-    one : (something : Report) → told later number something .others ≤ later .others + 1
+    one : (something : Report) → noteSome later number something .others ≤ later .others + 1
     one something = go (eqb (later .edge) 0)
       where
         go : (test : Bool)
@@ -39,16 +41,16 @@ others-next later then number r e = rw e (all r)
     all (report.Error f) = one (report.Error f)
     all (report.Refused n) = one (report.Refused n)
 
--- the durations of a frame from a place on, with their wrongs: the first duration has none
+-- the durations of a frame from a place on, with their deviations: the first duration has none
 abbrev pub rest : List ℕ → List ℕ → ℕ → List ℕ
-rest frame wrongs at = wronged (drop at frame) (drop (at - 1) wrongs)
+rest frame deviations at = deviated (drop at frame) (drop (at - 1) deviations)
 
-next : (frame wrongs : List ℕ) (at : ℕ) → 1 ≤ at → at < length frame
-    → rest frame wrongs at ≡ cameAs (getD frame at 0) (drop (at - 1) wrongs) ∷ rest frame wrongs (at + 1)
-unfolding wronged
-next frame wrongs at some more =
+next : (frame deviations : List ℕ) (at : ℕ) → 1 ≤ at → at < length frame
+    → rest frame deviations at ≡ cameAs (getD frame at 0) (drop (at - 1) deviations) ∷ rest frame deviations (at + 1)
+unfolding deviated
+next frame deviations at some more =
     let same : at - 1 + 1 ≡ at + 1 - 1 = omega arith in
-    rw (drop-cons frame at 0, drop-drop 1 (at - 1) wrongs, same, add-one at)
+    rw (drop-cons frame at 0, drop-drop 1 (at - 1) deviations, same, add-one at)
 
 -- what comes of edges, the first of them being the edge `number`
 abbrev pub fed : Report → Later → ℕ → Decoder → List Edge → Sent
@@ -56,37 +58,37 @@ fed first later number decoder edges = answerOf first (notedAll later number (re
 
 -- the first edge is fed
 pub fed-first
-    : (decoder : Decoder) (silence : ℕ) (frame wrongs : List ℕ) (total : Total) → total ≡ eventTotal decoder true silence
-    → fed (total .report) noneYet 2 (total .decoder) (alternating false (rest frame wrongs 1)) ≡ heardOf decoder silence frame wrongs
+    : (decoder : Decoder) (silence : ℕ) (frame deviations : List ℕ) (t : Total) → t ≡ edgeTotal decoder (edge true silence)
+    → fed (t .report) noneYet 2 (t .decoder) (alternating false (rest frame deviations 1)) ≡ heardOf decoder silence frame deviations
 unfolding summaryOf runReports runAfter alternating
-fed-first decoder silence frame wrongs total e = rw e
+fed-first decoder silence frame deviations t e = rw e
 
 -- the next edge is fed
 pub fed-next
-    : (frame wrongs : List ℕ) (at : ℕ) → 1 ≤ at → at < length frame
-    → (first : Report) (rising : Bool) (decoder : Decoder) (duration : ℕ) (total : Total) (later then : Later)
-    → duration ≡ cameAs (getD frame at 0) (drop (at - 1) wrongs) → total ≡ eventTotal decoder rising duration → then ≡ noted later (at + 1) (total .report)
-    → fed first then (at + 1 + 1) (total .decoder) (alternating (not rising) (rest frame wrongs (at + 1)))
-    ≡ fed first later (at + 1) decoder (alternating rising (rest frame wrongs at))
+    : (frame deviations : List ℕ) (at : ℕ) → 1 ≤ at → at < length frame
+    → (first : Report) (rising : Bool) (decoder : Decoder) (duration : ℕ) (t : Total) (later then : Later)
+    → duration ≡ cameAs (getD frame at 0) (drop (at - 1) deviations) → t ≡ edgeTotal decoder (edge rising duration) → then ≡ noted later (at + 1) (t .report)
+    → fed first then (at + 1 + 1) (t .decoder) (alternating (not rising) (rest frame deviations (at + 1)))
+    ≡ fed first later (at + 1) decoder (alternating rising (rest frame deviations at))
 unfolding notedAll runReports runAfter alternating
-fed-next frame wrongs at some more first rising decoder duration total later then is goes notes = rw (next frame wrongs at some more, ← is, notes, goes)
+fed-next frame deviations at some more first rising decoder duration t later then is goes notes = rw (next frame deviations at some more, ← is, notes, goes)
 
 -- past the frame's end nothing is fed
 pub fed-end
-    : (frame wrongs : List ℕ) (at : ℕ) → length frame ≤ at → (first : Report) (rising : Bool) (decoder : Decoder) (later : Later)
-    → fed first later (at + 1) decoder (alternating rising (rest frame wrongs at)) ≡ answerOf first later decoder
-unfolding wronged notedAll runReports runAfter alternating
-fed-end frame wrongs at past first rising decoder later = rw (drop-of-length-le frame {i = at} past)
+    : (frame deviations : List ℕ) (at : ℕ) → length frame ≤ at → (first : Report) (rising : Bool) (decoder : Decoder) (later : Later)
+    → fed first later (at + 1) decoder (alternating rising (rest frame deviations at)) ≡ answerOf first later decoder
+unfolding deviated notedAll runReports runAfter alternating
+fed-end frame deviations at past first rising decoder later = rw (drop-of-length-le frame {i = at} past)
 
 -- ---- the decoder alone, after durations in alternating edges
 
 module _ (durations : List ℕ) (at : ℕ) (rising : Bool) (decoder : Decoder) where
   pub after-next
-      : at < length durations → (total : Total) → total ≡ eventTotal decoder rising (getD durations at 0)
-      → decoderAfter (total .decoder) (alternating (not rising) (drop (at + 1) durations)) ≡ decoderAfter decoder (alternating rising (drop at durations))
-  unfolding runAfter alternating
-  after-next more total goes = rw (drop-cons durations at 0, goes, add-one at)
+      : at < length durations → (t : Total) → t ≡ edgeTotal decoder (edge rising (getD durations at 0))
+      → decoderAfter (t .decoder) (alternating (not rising) (drop (at + 1) durations)) ≡ decoderAfter decoder (alternating rising (drop at durations))
+  unfolding runAfter
+  after-next more t goes = rw (next-edge rising durations at more, goes)
 
   pub after-end : length durations ≤ at → decoderAfter decoder (alternating rising (drop at durations)) ≡ decoder
-  unfolding runAfter alternating
-  after-end past = rw (drop-of-length-le durations {i = at} past)
+  unfolding runAfter
+  after-end past = rw (no-edge rising durations at past)

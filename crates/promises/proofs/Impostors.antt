@@ -9,59 +9,61 @@ use native.Mathlib.Omega.{arith}
 use lib.ListN.{length, drop}
 use Rattle.commands.specs.declared.Command.{Command}
 use Rattle.reports.specs.Reports.{Numbers, reportNumbers}
-use Rattle.reports.specs.Run.{Edge, runReports, runAfter, alternating}
+use Rattle.spans.specs.declared.Spans.{Spans}
+use Rattle.reports.specs.Edges.{Edge, alternating}
+use Rattle.reports.specs.Machine.{Machine, total, runReports, runAfter}
 use Rattle.reports.specs.declared.Report.the-variants as report
-use Rattle.reports.proofs.Run.{after-joined}
-use Rattle.promises.specs.Heard.{Receiver, Near, none, more, quiet, Heard}
+use Rattle.reports.proofs.Machine.{after-joined}
+use Rattle.promises.specs.Heard.{Near, none, more, quiet, Heard}
 use Rattle.promises.specs.Impostors.{HeardFor, Reports, OneFixedCommandRejected, NeverReportsRejected, FirstFrameOnlyRejected}
 
 near-itself : (deviation : ℕ) (durations : List ℕ) → Near deviation durations durations
 near-itself deviation [] = none
 near-itself deviation (duration ∷ durations) = more {sent = duration} {came = duration} (omega arith) (omega arith) (near-itself deviation durations)
 
-module _ (R : Receiver) where
+module _ (M : Machine) (spans : Spans) where
   -- some edge has these numbers
-  pub record Somewhere (d : R .Decoder) (told : Numbers) : Type 0 where
+  pub record Somewhere (m : M .Memory) (wanted : Numbers) : Type 0 where
     pub before : List Edge
     pub edge : Edge
-    pub here : reportNumbers (R .report (runAfter (R .after) d before) edge) ≡ told
+    pub here : reportNumbers (total M spans (runAfter M spans m before) edge .report) ≡ wanted
 
   somewhere
-      : (d : R .Decoder) (edges : List Edge) (before : List Numbers) (told : Numbers) (behind : List Numbers)
-      → map reportNumbers (runReports (R .report) (R .after) d edges) ≡ before ++ (told ∷ behind) → Somewhere d told
+      : (m : M .Memory) (edges : List Edge) (before : List Numbers) (wanted : Numbers) (after : List Numbers)
+      → map reportNumbers (runReports M spans m edges) ≡ before ++ (wanted ∷ after) → Somewhere m wanted
   unfolding runReports runAfter
-  somewhere d [] [] told behind e = let z : _≡_ {A = ℕ} 0 1 = cc in absurd (omega arith)
-  somewhere d [] (other ∷ before) told behind e = let z : _≡_ {A = ℕ} 0 1 = cc in absurd (omega arith)
-  somewhere d (edge ∷ edges) [] told behind e = record { before = []; edge = edge; here = cc }
-  somewhere d (edge ∷ edges) (other ∷ before) told behind e =
-      let s = somewhere (R .after d edge) edges before told behind (cc) in
+  somewhere m [] [] wanted after e = let z : _≡_ {A = ℕ} 0 1 = cc in absurd (omega arith)
+  somewhere m [] (other ∷ before) wanted after e = let z : _≡_ {A = ℕ} 0 1 = cc in absurd (omega arith)
+  somewhere m (edge ∷ edges) [] wanted after e = record { before = []; edge = edge; here = cc }
+  somewhere m (edge ∷ edges) (other ∷ before) wanted after e =
+      let s = somewhere (total M spans m edge .memory) edges before wanted after (cc) in
       record { before = edge ∷ s .before; edge = s .edge; here = s .here }
 
   -- after any earlier edges there are more, and then one that reports the command
-  reported : (sent : Command) → HeardFor R sent → (earlier : List Edge) → (before : List Edge) × (edge : Edge) × Reports R (earlier ++ before) edge sent
+  reported : (sent : Command) → HeardFor M spans sent → (earlier : List Edge) → (before : List Edge) × (edge : Edge) × Reports M spans (earlier ++ before) edge sent
   unfolding Heard
   reported sent h earlier =
       let gap = h .silence + 1 in
       let durations = drop 1 (h .frame) in
       let (first, allowed, all) = h .heard earlier gap durations (omega arith) (near-itself (h .deviation) durations) in
       let s =
-      somewhere (runAfter (R .after) (R .fresh) earlier) (alternating true (gap ∷ durations)) (first ∷ quiet (h .settles - 2))
-      (reportNumbers (report.Command sent)) (quiet (length (h .frame) - h .settles)) all in
-      (s .before, s .edge, rw (after-joined (R .after) (R .fresh) earlier (s .before)) (s .here))
+      somewhere (runAfter M spans (M .fresh) earlier) (alternating true (gap ∷ durations)) (first ∷ quiet (h .reporting - 2))
+      (reportNumbers (report.Command sent)) (quiet (length (h .frame) - h .reporting)) all in
+      (s .before, s .edge, rw (after-joined M spans (M .fresh) earlier (s .before)) (s .here))
 
 pub one-fixed-command-rejected : OneFixedCommandRejected
-one-fixed-command-rejected R fixed one two always different heard-one heard-two =
-    let (before, edge, first) = reported R one heard-one [] in
-    let (since, later, second) = reported R two heard-two [] in
+one-fixed-command-rejected M spans fixed one two always different heard-one heard-two =
+    let (before, edge, first) = reported M spans one heard-one [] in
+    let (since, later, second) = reported M spans two heard-two [] in
     different (always before edge one first ∙ sym (always since later two second))
 
 pub never-reports-rejected : NeverReportsRejected
-never-reports-rejected R sent never heard =
-    let (before, edge, told) = reported R sent heard [] in
-    never before edge sent told
+never-reports-rejected M spans sent never heard =
+    let (before, edge, reports) = reported M spans sent heard [] in
+    never before edge sent reports
 
 pub first-frame-only-rejected : FirstFrameOnlyRejected
-first-frame-only-rejected R sent only heard =
-    let (before, edge, first) = reported R sent heard [] in
-    let (since, later, second) = reported R sent heard (before ++ (edge ∷ [])) in
+first-frame-only-rejected M spans sent only heard =
+    let (before, edge, first) = reported M spans sent heard [] in
+    let (since, later, second) = reported M spans sent heard (before ++ (edge ∷ [])) in
     only before since edge later sent sent first (rw append-assoc at second)

@@ -21,6 +21,6 @@ pub mod RepeatShown
 pub mod Starred
 pub mod Feeding
 pub mod Room
-pub mod Wrongs
+pub mod Deviations
 pub mod SentHeard
 pub mod Determined

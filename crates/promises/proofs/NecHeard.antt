@@ -2,7 +2,7 @@
 -- is a sync; and by induction on the bits that are left each pair of durations adds its bit to those gathered. Assumes nothing.
 use mathlib.Core.Path.{_≡_, refl, sym, ap, _∙_}
 use mathlib.Core.Bool.{true, false, cond}
-use mathlib.Core.List.{List, [], _∷_, map}
+use mathlib.Core.List.{List, [], _∷_}
 use Prim.Native.Nat.{ℕ, zero, suc, _+_, _*_, _/_, _%_, _^_, _≤_, _<_}
 use native.Mathlib.Omega.{arith}
 use native.Mathlib.Nat.{mod-lt, mod-eq-of-lt, one-mul}
@@ -18,58 +18,39 @@ use Rattle.commands.specs.declared.Command.the-variants as command
 use Rattle.commands.specs.declared.nec.NecCommand.{NecCommand}
 use Rattle.commands.proofs.Laws.{nec-back, nec-fits}
 use Rattle.frames.specs.Frames.{pairsFrom}
+use Rattle.spans.specs.declared.Spans.{Spans}
 use Rattle.reports.specs.Reports.{reportNumbers}
-use Rattle.reports.specs.Run.{Edge, edge, runReports, alternating}
+use Rattle.reports.specs.Edges.{edge, alternating}
+use Rattle.reports.specs.Machine.{total, runReports, runAfter}
 use Rattle.reports.specs.declared.Fault.the-variants.{Data}
 use Rattle.reports.specs.declared.Report.{Report}
 use Rattle.reports.specs.declared.Report.the-variants as report
-use Rattle.reports.proofs.Run.{after-keeps}
-use Rattle.nec.specs.Decoder.{pastEnd, reachable, next, afterBit, nextOf, fromReceiving, memoryOf, stepIn, stood, ruled, newAt, edgeReport, edgeAfter, reportsOf, decoderAfter}
+use Rattle.reports.proofs.Machine.{total-taken}
+use Rattle.nec.specs.Decoder.{reachable, next, afterBit, nextOf, fromReceiving, memoryOf, stepIn, machine}
 use Rattle.nec_encoder.specs.Encoder.{frameOf, necFrame}
 use Rattle.nec.specs.declared.decoder.NecState.{NecState}
 use Rattle.nec.specs.declared.decoder.NecState.the-variants.{Init, Receiving, Done, RepeatDone, Error}
 use Rattle.nec.specs.declared.decoder.NecMemory.{NecMemory}
-use Rattle.nec.specs.declared.decoder.NecDecoder.{NecDecoder}
-use Rattle.nec.specs.declared.decoder.NecTotalIn.{NecTotalIn}
-use Rattle.nec.proofs.Laws.{total-taken, reachable-in-reach, run-reachable}
+use Rattle.nec.proofs.Laws.{reachable-in-reach, run-reachable}
 use Rattle.nec_encoder.proofs.Frame.{length-frame}
-use Rattle.promises.specs.Heard.{Near, none, more, Heard, NothingOrData, nothing, broken, necReceiver, EveryNecHeard}
+use Rattle.promises.specs.Heard.{Near, none, more, Heard, NothingOrData, nothing, broken, spansAt1MHz, EveryNecHeard}
 use Rattle.spans.proofs.Places.{placeAt, allRead, noneReads, reads-place, ends-place}
 use Rattle.promises.proofs.Bits.{low-more}
-use Rattle.promises.proofs.Run.{Works, Silent, Goes, Reports, here, onward, heard, near-length}
+use Rattle.promises.proofs.Run.{Silent, Goes, Reports, here, onward, heard, near-length}
 
 -- ---- the step, and the rule after it
 
-abbrev low : List ℕ
-low = spansOf 1 1000000 .spans .low
-
-abbrev high : List ℕ
-high = spansOf 1 1000000 .spans .high
-
-abbrev of : NecMemory → NecDecoder
-of m = record { spans = spansOf 1 1000000 .spans; memory = m }
-
-abbrev works : Works necReceiver
-works =
-    record {
-      Memory = NecMemory;
-      of = of;
-      step = stepIn low high;
-      told = λ m. ruled (stood m) .report;
-      kept = λ m. ruled (stood m) .memory;
-      Taken = λ m. pastEnd (m .state) ≡ false;
-      taken-report = λ m rising duration h. ap (λ (t : NecTotalIn). t .report) (total-taken low high m duration rising h);
-      taken-after = λ m rising duration h. ap (λ (t : NecTotalIn). of (t .memory)) (total-taken low high m duration rising h);
-    }
+abbrev spans : Spans
+spans = spansAt1MHz 1
 
 abbrev at : NecState → ℕ → ℕ → NecMemory
 at state bits saved = memoryOf state bits saved
 
-waits : {bits saved : ℕ} → Silent works (at Init bits saved)
+waits : {bits saved : ℕ} → Silent machine spans (at Init bits saved)
 waits = record { nothing = refl; same = refl; taken = refl }
 
-receives : (k : ℕ) {bits saved : ℕ} → k ≤ 31 → Silent works (at (Receiving k) bits saved)
-receives k h = record { nothing = refl; same = refl; taken = reachable-in-reach (Receiving k) (le-leb k 31 h) }
+receives : (k : ℕ) {bits saved : ℕ} → k ≤ 31 → Silent machine spans (at (Receiving k) bits saved)
+receives k h = record { nothing = refl; same = refl; taken = rw (reachable-in-reach (Receiving k) (le-leb k 31 h)) }
 
 -- ---- what the totals read
 
@@ -116,7 +97,7 @@ bit-read k n (suc (suc digit)) x y q h₁ h₂ h₃ h₄ = absurd (omega arith)
 
 -- nothing is reported up to the command read off the bits n, and it is the last edge's
 abbrev Wanted : ℕ → NecMemory → List ℕ → Type 0
-Wanted n m durations = Goes works (Reports works (command.Nec (unpackOf n false)) 0) m true durations
+Wanted n m durations = Goes machine spans (Reports machine spans (command.Nec (unpackOf n false)) 0) m true durations
 
 goes-on : (k n : ℕ) {bits : ℕ} (durations : List ℕ) → k < 31 → Wanted n (at (Receiving (k + 1)) bits 0) durations → Wanted n (at (afterBit k) bits 0) durations
 goes-on k n durations h g = rw (ne-eqb k 31 (omega arith)) g
@@ -129,13 +110,13 @@ bit-edges
 unfolding stepIn
 bit-edges k n x y durations w h e h₁ h₂ h₃ h₄ g =
     let read = bit-read k n _ x y refl h₁ h₂ h₃ h₄ in
-    onward works _ true x _ (receives k h)
-    (onward works _ false y _ (receives k h) (rw (e, read) g))
+    onward machine spans _ true x _ (receives k h)
+    (onward machine spans _ false y _ (receives k h) (rw (e, read) g))
 
 -- all 32 bits are gathered: the command is reported
 ended : (k n : ℕ) → k ≡ 31 → n < 2 ^ 32 → Wanted n (at (afterBit k) (n % 2 ^ (k + 1)) 0) []
 unfolding runReports alternating
-ended k n last fits = rw (last, mod-eq-of-lt fits) (here works refl)
+ended k n last fits = rw (last, mod-eq-of-lt fits) (here machine spans refl)
 
 sent
     : (left k n : ℕ) {bits saved : ℕ} (durations : List ℕ) → suc left + k ≡ 32 → n < 2 ^ 32 → bits ≡ n % 2 ^ k
@@ -152,52 +133,35 @@ sent (suc left) k n durations f fits e (more {came = x} h₁ h₂ (more {came = 
 headed : (n bits : ℕ) (durations : List ℕ) → n < 2 ^ 32 → Near 28 (drop 1 (frameOf n 1000000)) durations → Wanted n (at Init bits 0) durations
 unfolding frameOf stepIn
 headed n bits durations fits (more {came = x} h₁ h₂ (more {came = y} {restCame = rest} h₃ h₄ near)) =
-    onward works _ true x _ waits
-    (onward works _ false y _ waits (rw (is-sync (x + y) (omega arith) (omega arith)) (sent 31 0 n rest refl fits (omega arith) near)))
-
--- what any earlier edges leave has the spans of 1 MHz
-with-spans : (earlier : List Edge) → decoderAfter (newAt 1000000 .decoder) earlier ≡ of (decoderAfter (newAt 1000000 .decoder) earlier .memory)
-with-spans earlier =
-    after-keeps edgeAfter (λ d. d ≡ of (d .memory))
-    (λ d e h. ap (λ (s : NecDecoder). record { spans = s .spans; memory = edgeAfter d e .memory }) h)
-    (newAt 1000000 .decoder) earlier refl
+    onward machine spans _ true x _ waits
+    (onward machine spans _ false y _ waits (rw (is-sync (x + y) (omega arith) (omega arith)) (sent 31 0 n rest refl fits (omega arith) near)))
 
 -- The first edge ends in no span: the receiver waits in Init after it, and what it reported may be the broken frame's error.
 pub record Opened (m : NecMemory) (gap : ℕ) : Type 0 where
   pub first : Report
   pub allowed : NothingOrData (reportNumbers first)
   pub bits : ℕ
-  pub told : edgeReport (of m) (edge true gap) ≡ first
-  pub kept : edgeAfter (of m) (edge true gap) ≡ of (at Init bits 0)
+  pub opened : total machine spans m (edge true gap) ≡ record { report = first; memory = at Init bits 0 }
 
-lost : (m : NecMemory) (gap : ℕ) → 14445 < gap → stepIn low high m true gap ≡ nextOf (m .state) 8 (m .bits)
+lost : (m : NecMemory) (gap : ℕ) → 14445 < gap → machine .step spans m (edge true gap) ≡ nextOf (m .state) 8 (m .bits)
 unfolding stepIn
 lost m gap g = rw (is-none (m .saved + gap) (omega arith))
 
 opened : (m : NecMemory) (state : NecState) (gap : ℕ) → m .state ≡ state → reachable state ≡ true → 14445 < gap → Opened m gap
-opened m Init gap e h g = record { first = report.Nothing; allowed = nothing; bits = m .bits; told = told; kept = kept }
-  where
-    after : stepIn low high m true gap ≡ at Init (m .bits) 0
-    after = lost m gap g ∙ ap (λ (state : NecState). nextOf state 8 (m .bits)) e
-
-    told : edgeReport (of m) (edge true gap) ≡ report.Nothing
-    told = works .taken-report m true gap (ap pastEnd e) ∙ ap (works .told) after
-
-    kept : edgeAfter (of m) (edge true gap) ≡ of (at Init (m .bits) 0)
-    kept = works .taken-after m true gap (ap pastEnd e) ∙ ap (λ (m : NecMemory). of (works .kept m)) after
-opened m (Receiving k) gap e h g = record { first = report.Error Data; allowed = broken; bits = m .bits; told = told; kept = kept }
-  where
-    in-reach : pastEnd (m .state) ≡ false
-    in-reach = ap pastEnd e ∙ reachable-in-reach (Receiving k) h
-
-    after : stepIn low high m true gap ≡ at (Error Data) (m .bits) 0
-    after = lost m gap g ∙ ap (λ (state : NecState). nextOf state 8 (m .bits)) e
-
-    told : edgeReport (of m) (edge true gap) ≡ report.Error Data
-    told = works .taken-report m true gap in-reach ∙ ap (works .told) after
-
-    kept : edgeAfter (of m) (edge true gap) ≡ of (at Init (m .bits) 0)
-    kept = works .taken-after m true gap in-reach ∙ ap (λ (m : NecMemory). of (works .kept m)) after
+opened m Init gap e h g =
+    record {
+      first = report.Nothing;
+      allowed = nothing;
+      bits = m .bits;
+      opened = total-taken machine spans m (edge true gap) (rw e) ∙ simp (lost m gap g, e);
+    }
+opened m (Receiving k) gap e h g =
+    record {
+      first = report.Error Data;
+      allowed = broken;
+      bits = m .bits;
+      opened = total-taken machine spans m (edge true gap) (rw (e, reachable-in-reach (Receiving k) h)) ∙ simp (lost m gap g, e);
+    }
 opened m Done gap e h g = let z : _≡_ {A = ℕ} 0 1 = cc in absurd (omega arith)
 opened m RepeatDone gap e h g = let z : _≡_ {A = ℕ} 0 1 = cc in absurd (omega arith)
 opened m (Error fault) gap e h g = let z : _≡_ {A = ℕ} 0 1 = cc in absurd (omega arith)
@@ -211,13 +175,12 @@ unfolding Heard
 nec-heard addr cmd a c earlier gap durations silent near =
     let sent : NecCommand = record { addr = addr; cmd = cmd; repeat = false } in
     let n = packOf sent in
-    let m = decoderAfter (newAt 1000000 .decoder) earlier .memory in
-    let o = opened m (m .state) gap refl (run-reachable 1000000 earlier) silent in
+    let m = runAfter machine spans (machine .fresh) earlier in
+    let o = opened m (m .state) gap refl (run-reachable spans earlier) silent in
     let go = headed n (o .bits) durations (nec-fits sent a c) near in
     let long : length (necFrame sent 1000000) ≡ suc (length durations) = first-and-rest n ∙ ap suc (sym (near-length near)) in (
       reportNumbers (o .first),
       o .allowed,
-      ap (λ (d : NecDecoder). map reportNumbers (reportsOf d (alternating true (gap ∷ durations)))) (with-spans earlier)
-          ∙ heard works (necFrame sent 1000000) durations gap (of m) (o .first) (command.Nec sent) 0 67 (at Init (o .bits) 0) long (sym (length-frame n 1000000)) (o .told) (o .kept) waits
+      heard machine spans (necFrame sent 1000000) durations gap m (o .first) (command.Nec sent) 0 67 (at Init (o .bits) 0) long (sym (length-frame n 1000000)) (o .opened) waits
           (rw (nec-back sent a c) at go),
     )

@@ -18,19 +18,18 @@ use Rattle.commands.specs.declared.rc5.Rc5Command.{Rc5Command}
 use Rattle.commands.proofs.Laws.{rc5-back}
 use Rattle.frames.specs.Frames.{bitSet}
 use Rattle.reports.specs.Reports.{reportNumbers}
-use Rattle.reports.specs.Run.{Edge, edge, runReports, alternating}
+use Rattle.reports.specs.Edges.{Edge, edge, alternating}
+use Rattle.reports.specs.Machine.{totalAfter, total, runReports, runAfter}
 use Rattle.reports.specs.declared.Report.the-variants as report
 use Rattle.reports.proofs.Either.{either}
-use Rattle.reports.proofs.Run.{after-keeps}
-use Rattle.rc5.specs.Decoder.{pastEnd, memoryOf, afterBit, gathered, stepIn, stood, ruled, newAt, edgeReport, edgeAfter, decoderAfter}
+use Rattle.reports.proofs.Machine.{total-taken}
+use Rattle.rc5.specs.Decoder.{memoryOf, afterBit, withBit, stepIn, machine}
 use Rattle.rc5_encoder.specs.Encoder.{pieceOf, piecesAfter, frameOf, rc5Frame}
 use Rattle.rc5.specs.declared.decoder.Rc5State.the-variants.{Data}
 use Rattle.rc5.specs.declared.decoder.Rc5Memory.{Rc5Memory}
-use Rattle.rc5.specs.declared.decoder.Rc5TotalIn.{Rc5TotalIn}
-use Rattle.rc5.specs.declared.decoder.Rc5Decoder.{Rc5Decoder}
-use Rattle.rc5.proofs.Laws.{total-taken, reachable-in-reach, run-reachable, bad-rise-opens}
-use Rattle.promises.specs.Heard.{Near, none, Nothing, nothing, Heard, rc5Receiver, EveryRc5Heard}
-use Rattle.promises.proofs.Run.{Works, Silent, Goes, Reports, near-length, then, heard}
+use Rattle.rc5.proofs.Laws.{reachable-in-reach, run-reachable, bad-rise-opens}
+use Rattle.promises.specs.Heard.{Near, none, OnlyNothing, nothing, Heard, spansAt1MHz, EveryRc5Heard}
+use Rattle.promises.proofs.Run.{Silent, Goes, Reports, near-length, then, heard}
 use Rattle.spans.proofs.Places.{placeAt, allRead, noneReads, reads-place, ends-place}
 use Rattle.promises.proofs.Biphase.{turn, turns, Follows, End, followed}
 use Rattle.promises.proofs.Bits.{high, bit-joins, tick, to-odd, to-even, keeps-even}
@@ -38,29 +37,13 @@ use Rattle.promises.proofs.Bits.{high, bit-joins, tick, to-odd, to-even
 -- ---- the step, and the rule after it
 
 abbrev spans : Spans
-spans = spansOf 2 1000000 .spans
-
-abbrev of : Rc5Memory → Rc5Decoder
-of m = record { spans = spans; memory = m }
+spans = spansAt1MHz 2
 
 abbrev step : Rc5Memory → Bool → ℕ → Rc5Memory
-step = stepIn (spans .low) (spans .high)
+step m rising duration = stepIn spans m (edge rising duration)
 
-abbrev works : Works rc5Receiver
-works =
-    record {
-      Memory = Rc5Memory;
-      of = of;
-      step = step;
-      told = λ m. ruled (stood m) .report;
-      kept = λ m. ruled (stood m) .memory;
-      Taken = λ m. pastEnd (m .state) ≡ false;
-      taken-report = λ m rising duration h. ap (λ (t : Rc5TotalIn). t .report) (total-taken (spans .low) (spans .high) m duration rising h);
-      taken-after = λ m rising duration h. ap (λ (t : Rc5TotalIn). of (t .memory)) (total-taken (spans .low) (spans .high) m duration rising h);
-    }
-
-receives : (k bits clock : ℕ) → k ≤ 12 → Silent works (memoryOf (Data k) bits clock)
-receives k bits clock h = record { nothing = refl; same = refl; taken = reachable-in-reach (Data k) (le-leb k 12 h) }
+receives : (k bits clock : ℕ) → k ≤ 12 → Silent machine spans (memoryOf (Data k) bits clock)
+receives k bits clock h = record { nothing = refl; same = refl; taken = rw (reachable-in-reach (Data k) (le-leb k 12 h)) }
 
 -- after the bit k + 1 comes the bit k
 more-left : (k : ℕ) → afterBit (suc k) ≡ Data k
@@ -85,37 +68,37 @@ pieces-turns single bits before zero = refl
 pieces-turns single bits before (suc left) =
     rw (pieces-turns single bits (bitSet bits left) left) (piece-turn single (Bool·beq before (bitSet bits left)) _)
 
--- ---- what a silence reads, and a single and a double that are wrong by at most 106: spans 783..995 and 1601..1955
+-- ---- what a silence reads, and a single and a double that deviate by at most 106: spans 783..995 and 1601..1955
 
 is-silence : (gap : ℕ) → 1955 < gap → placeAt 2 gap ≡ 8
 unfolding noneReads spansOf spansAt
 is-silence gap h = ends-place 2 1956 gap tt h
 
-module _ (wrong : ℕ) (small : wrong ≤ 106) where
-  is-single : (x : ℕ) → 889 ≤ x + wrong → x ≤ 889 + wrong → placeAt 2 x ≡ 0
+module _ (deviation : ℕ) (small : deviation ≤ 106) where
+  is-single : (x : ℕ) → 889 ≤ x + deviation → x ≤ 889 + deviation → placeAt 2 x ≡ 0
   unfolding allRead spansOf spansAt
   is-single x h k = reads-place 2 0 783 995 x tt (omega arith) (omega arith)
 
-  is-double : (x : ℕ) → 1778 ≤ x + wrong → x ≤ 1778 + wrong → placeAt 2 x ≡ 1
+  is-double : (x : ℕ) → 1778 ≤ x + deviation → x ≤ 1778 + deviation → placeAt 2 x ≡ 1
   unfolding allRead spansOf spansAt
   is-double x h k = reads-place 2 1 1672 1884 x tt (omega arith) (omega arith)
 
   -- ---- one edge while receiving: half a bit, the other half, or both at once
 
   module _ (k bits clock : ℕ) (rising : Bool) (x : ℕ) where
-    at-half : clock % 2 ≡ 0 → 889 ≤ x + wrong → x ≤ 889 + wrong → step (memoryOf (Data k) bits clock) rising x ≡ memoryOf (Data k) bits (tick clock 1)
+    at-half : clock % 2 ≡ 0 → 889 ≤ x + deviation → x ≤ 889 + deviation → step (memoryOf (Data k) bits clock) rising x ≡ memoryOf (Data k) bits (tick clock 1)
     unfolding stepIn
     at-half even h j = rw (is-single x h j, to-odd clock even)
 
     at-second
-        : clock % 2 ≡ 1 → 889 ≤ x + wrong → x ≤ 889 + wrong
-        → step (memoryOf (Data k) bits clock) rising x ≡ memoryOf (afterBit k) (gathered k bits rising) (tick clock 1)
+        : clock % 2 ≡ 1 → 889 ≤ x + deviation → x ≤ 889 + deviation
+        → step (memoryOf (Data k) bits clock) rising x ≡ memoryOf (afterBit k) (withBit k bits rising) (tick clock 1)
     unfolding stepIn
     at-second odd h j = rw (is-single x h j, to-even clock odd)
 
     at-double
-        : clock % 2 ≡ 0 → 1778 ≤ x + wrong → x ≤ 1778 + wrong
-        → step (memoryOf (Data k) bits clock) rising x ≡ memoryOf (afterBit k) (gathered k bits rising) (tick clock 2)
+        : clock % 2 ≡ 0 → 1778 ≤ x + deviation → x ≤ 1778 + deviation
+        → step (memoryOf (Data k) bits clock) rising x ≡ memoryOf (afterBit k) (withBit k bits rising) (tick clock 2)
     unfolding stepIn
     at-double even h j = rw (is-double x h j, keeps-even clock even)
 
@@ -129,25 +112,25 @@ module _ (wrong : ℕ) (small : wrong ≤ 106) where
     abbrev Half : ℕ → Rc5Memory → Type 0
     Half k m = (clock : ℕ) × (k ≤ 12) × (clock % 2 ≡ 1) × (m ≡ memoryOf (Data k) (high n (suc k)) clock)
 
-    at-silent : (k : ℕ) (m : Rc5Memory) → At (suc k) m → Silent works m
+    at-silent : (k : ℕ) (m : Rc5Memory) → At (suc k) m → Silent machine spans m
     at-silent k m (clock, reach, even, e) = rw (e, more-left k) (receives k (high n (suc k)) clock (omega arith))
 
-    half-silent : (k : ℕ) (m : Rc5Memory) → Half k m → Silent works m
+    half-silent : (k : ℕ) (m : Rc5Memory) → Half k m → Silent machine spans m
     half-silent k m (clock, reach, odd, e) = rw e (receives k (high n (suc k)) clock reach)
 
-    half : (k : ℕ) (m : Rc5Memory) (rising : Bool) (x : ℕ) → At (suc k) m → 889 ≤ x + wrong → x ≤ 889 + wrong → Half k (step m rising x)
+    half : (k : ℕ) (m : Rc5Memory) (rising : Bool) (x : ℕ) → At (suc k) m → 889 ≤ x + deviation → x ≤ 889 + deviation → Half k (step m rising x)
     half k m rising x (clock, reach, even, e) h j =
         (tick clock 1, omega arith, to-odd clock even, rw (e, more-left k) (at-half k (high n (suc k)) clock rising x even h j))
 
     -- the bit joins those above it
-    joins : (k clock : ℕ) → memoryOf (afterBit k) (gathered k (high n (suc k)) (bitSet n k)) clock ≡ memoryOf (afterBit k) (high n k) clock
+    joins : (k clock : ℕ) → memoryOf (afterBit k) (withBit k (high n (suc k)) (bitSet n k)) clock ≡ memoryOf (afterBit k) (high n k) clock
     joins k clock = ap (λ (bits : ℕ). memoryOf (afterBit k) bits clock) (bit-joins n k)
 
-    second : (k : ℕ) (m : Rc5Memory) (x : ℕ) → Half k m → 889 ≤ x + wrong → x ≤ 889 + wrong → At k (step m (bitSet n k) x)
+    second : (k : ℕ) (m : Rc5Memory) (x : ℕ) → Half k m → 889 ≤ x + deviation → x ≤ 889 + deviation → At k (step m (bitSet n k) x)
     second k m x (clock, reach, odd, e) h j =
         (tick clock 1, omega arith, to-even clock odd, rw e (at-second k (high n (suc k)) clock (bitSet n k) x odd h j ∙ joins k (tick clock 1)))
 
-    double : (k : ℕ) (m : Rc5Memory) (x : ℕ) → At (suc k) m → 1778 ≤ x + wrong → x ≤ 1778 + wrong → At k (step m (bitSet n k) x)
+    double : (k : ℕ) (m : Rc5Memory) (x : ℕ) → At (suc k) m → 1778 ≤ x + deviation → x ≤ 1778 + deviation → At k (step m (bitSet n k) x)
     double k m x (clock, reach, even, e) h j = (
       tick clock 2,
       omega arith,
@@ -155,22 +138,22 @@ module _ (wrong : ℕ) (small : wrong ≤ 106) where
       rw (e, more-left k) (at-double k (high n (suc k)) clock (bitSet n k) x even h j ∙ joins k (tick clock 2)),
     )
 
-    abbrev follows : Follows works 889 wrong (bitSet n)
+    abbrev follows : Follows machine spans 889 deviation (bitSet n)
     follows = record { At = At; Half = Half; at-silent = at-silent; half-silent = half-silent; half = half; second = second; double = double }
 
     -- with all bits taken the state is Done, and the command is reported
     whole
         : (m : Rc5Memory) (rising : Bool) (durations : List ℕ) → End follows [] m rising durations
-        → Reports works (command.Rc5 (unpackOf n)) 0 m rising durations
+        → Reports machine spans (command.Rc5 (unpackOf n)) 0 m rising durations
     unfolding runReports alternating
     whole m rising durations ((clock, reach, even, e), none) = rw (e, div-one, mul-one)
 
     -- from the first edge on, which sets bit 13
     goes
-        : (durations : List ℕ) → high n 13 ≡ 2 ^ 13 → Near wrong (piecesAfter 889 n true 13) durations
-        → Goes works (Reports works (command.Rc5 (unpackOf n)) 0) begun true durations
+        : (durations : List ℕ) → high n 13 ≡ 2 ^ 13 → Near deviation (piecesAfter 889 n true 13) durations
+        → Goes machine spans (Reports machine spans (command.Rc5 (unpackOf n)) 0) begun true durations
     goes durations set near =
-        then works whole
+        then machine spans whole
         (followed follows [] 13 begun true durations (0, omega arith, refl, rw set) (rw (append-nil, ← pieces-turns 889 n true 13) near))
 
 -- ---- the packed command
@@ -194,51 +177,33 @@ module _ (sent : Rc5Command) (ha : sent .addr < 32) (hc : sent .cmd < 64) (least
 
 -- ---- after any earlier edges
 
-abbrev heardFrom : List Edge → Rc5Decoder
-heardFrom earlier = decoderAfter (newAt 1000000 .decoder) earlier
+abbrev after : List Edge → Rc5Memory
+after earlier = runAfter machine spans (machine .fresh) earlier
 
-run-keeps-spans : (earlier : List Edge) → heardFrom earlier .spans ≡ spans
-run-keeps-spans earlier = after-keeps edgeAfter (λ d. d .spans ≡ spans) (λ d edge h. h) (newAt 1000000 .decoder) earlier refl
-
-module _ (earlier : List Edge) (gap : ℕ) (silence : 1955 < gap) where
-  -- the first edge is not refused, and is looked up in the spans that the decoder was built with
-  taken : pastEnd (heardFrom earlier .memory .state) ≡ false
-  taken = reachable-in-reach (heardFrom earlier .memory .state) (run-reachable 1000000 earlier)
-
-  same : heardFrom earlier ≡ of (heardFrom earlier .memory)
-  same = ap (λ (s : Spans). record { spans = s; memory = heardFrom earlier .memory }) (run-keeps-spans earlier)
-
-  opened : step (heardFrom earlier .memory) true gap ≡ begun
-  opened = bad-rise-opens (spans .low) (spans .high) (heardFrom earlier .memory) gap (is-silence gap silence)
-
-  first-report : edgeReport (heardFrom earlier) (edge true gap) ≡ report.Nothing
-  first-report =
-      ap (λ (d : Rc5Decoder). edgeReport d (edge true gap)) same
-      ∙ works .taken-report (heardFrom earlier .memory) true gap taken ∙ ap (works .told) opened
-
-  first-after : edgeAfter (heardFrom earlier) (edge true gap) ≡ of begun
-  first-after =
-      ap (λ (d : Rc5Decoder). edgeAfter d (edge true gap)) same
-      ∙ works .taken-after (heardFrom earlier .memory) true gap taken ∙ ap (λ (m : Rc5Memory). of (works .kept m)) opened
+-- the first edge is not refused, and opens a frame
+first-edge : (earlier : List Edge) (gap : ℕ) → 1955 < gap → total machine spans (after earlier) (edge true gap) ≡ record { report = report.Nothing; memory = begun }
+first-edge earlier gap silence =
+    let m = after earlier in
+    total-taken machine spans m (edge true gap) (rw (reachable-in-reach (m .state) (run-reachable spans earlier)))
+    ∙ ap (totalAfter machine) (bad-rise-opens spans m gap (is-silence gap silence))
 
 -- ---- the whole
 
-module _ (sent : Rc5Command) (silence wrong : ℕ) where
+module _ (sent : Rc5Command) (silence deviation : ℕ) where
   abbrev frame : List ℕ
   frame = rc5Frame sent 1000000
 
-  -- the same for any silence that is no shorter and any wrong that is no larger: all that the proof needs of the two bounds
+  -- the same for any silence that is no shorter and any deviation that is no larger: all that the proof needs of the two bounds
   pub heard-within
-      : sent .addr < 32 → sent .cmd < 64 → 2 ≤ sent .start → sent .start ≤ 3 → 1955 ≤ silence → wrong ≤ 106
-      → Heard rc5Receiver Nothing silence wrong frame (command.Rc5 sent) (length frame)
+      : sent .addr < 32 → sent .cmd < 64 → 2 ≤ sent .start → sent .start ≤ 3 → 1955 ≤ silence → deviation ≤ 106
+      → Heard machine spans OnlyNothing silence deviation frame (command.Rc5 sent) (length frame)
   unfolding Heard frameOf
   heard-within ha hc least most long small earlier gap durations over near =
-      let go = goes wrong small (packOf sent) durations (opens sent ha hc least most) near in (
+      let go = goes deviation small (packOf sent) durations (opens sent ha hc least most) near in (
         reportNumbers report.Nothing,
         nothing,
-        heard works frame durations gap (heardFrom earlier) report.Nothing (command.Rc5 sent) 0 (length frame) begun
-            (ap suc (sym (near-length near))) (add-zero (length frame))
-            (first-report earlier gap (omega arith)) (first-after earlier gap (omega arith)) (receives 12 (2 ^ 13) 0 (omega arith))
+        heard machine spans frame durations gap (after earlier) report.Nothing (command.Rc5 sent) 0 (length frame) begun
+            (ap suc (sym (near-length near))) (add-zero (length frame)) (first-edge earlier gap (omega arith)) (receives 12 (2 ^ 13) 0 (omega arith))
             (rw (back sent ha hc least most) at go),
       )
 

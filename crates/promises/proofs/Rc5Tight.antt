@@ -1,4 +1,4 @@
--- RC5's bounds are tight: with one tick more of wrong, or a silence equal to the bound, the demand does not hold, for document 01's starred command
+-- RC5's bounds are tight: with one tick more of deviation, or a silence equal to the bound, the demand does not hold, for document 01's starred command
 -- (address 0, command 0, toggle clear, start 3). One run each, computed: not one of its 26 edges reports anything. Assumes nothing.
 use mathlib.Core.Path.{_≡_, refl, sym, _∙_}
 use mathlib.Core.Bool.{true, false}
@@ -11,11 +11,12 @@ use Rattle.spans.specs.Lookup.{lowestFrom}
 use Rattle.commands.specs.Rc5.{packOf}
 use Rattle.commands.specs.declared.Command.the-variants as command
 use Rattle.reports.specs.Reports.{Numbers, reportNumbers}
-use Rattle.reports.specs.Run.{Edge, edge, runReports, runAfter, alternating}
-use Rattle.rc5.specs.Decoder.{stepIn, eventIn, totalIn, newAt, reportsOf, decoderAfter}
+use Rattle.reports.specs.Edges.{Edge, edge, alternating}
+use Rattle.reports.specs.Machine.{event, total, runReports, runAfter}
+use Rattle.rc5.specs.Decoder.{stepIn, machine}
 use Rattle.rc5_encoder.specs.Encoder.{frameOf, piecesAfter, rc5Frame}
 use Rattle.rc5_encoder.proofs.Starred.{starred}
-use Rattle.promises.specs.Heard.{quiet, Heard, Nothing, rc5Receiver}
+use Rattle.promises.specs.Heard.{quiet, Heard, OnlyNothing, spansAt1MHz}
 use Rattle.promises.proofs.Tight.{is-near, differ}
 
 abbrev frame : List ℕ
@@ -24,19 +25,19 @@ frame = rc5Frame starred 1000000
 -- what is reported at the edges of a frame, after a silence and earlier edges
 abbrev reported : List Edge → ℕ → List ℕ → List Numbers
 reported earlier gap durations =
-    map reportNumbers (reportsOf (decoderAfter (newAt 1000000 .decoder) earlier) (alternating true (gap ∷ durations)))
+    map reportNumbers (runReports machine (spansAt1MHz 2) (runAfter machine (spansAt1MHz 2) (machine .fresh) earlier) (alternating true (gap ∷ durations)))
 
 -- the first single is 107 long of 889: 996 is no span, so that falling edge resets, and a frame opened by the next rising edge is a bit short
 abbrev longSingle : List ℕ
 longSingle = 996 ∷ drop 2 frame
 
 pub lost-by-107 : reported [] 1956 longSingle ≡ quiet 26
-unfolding frameOf piecesAfter packOf runReports runAfter alternating stepIn eventIn totalIn spansOf spansAt lowestFrom
+unfolding frameOf piecesAfter packOf runReports runAfter alternating stepIn event total spansOf spansAt lowestFrom
 lost-by-107 = refl
 
-pub wrong-107 : Heard rc5Receiver Nothing 1955 107 frame (command.Rc5 starred) (length frame) → ⊥
+pub deviation-107 : Heard machine (spansAt1MHz 2) OnlyNothing 1955 107 frame (command.Rc5 starred) (length frame) → ⊥
 unfolding Heard frameOf piecesAfter packOf
-wrong-107 heard =
+deviation-107 heard =
     let (first, allowed, same) = heard [] 1956 longSingle (omega arith) (is-near 107 (drop 1 frame) longSingle tt) in
     differ 25 refl refl (sym same ∙ lost-by-107)
 
@@ -45,10 +46,10 @@ abbrev broken : List Edge
 broken = edge true 0 ∷ edge false 889 ∷ []
 
 pub lost-by-1955 : reported broken 1955 (drop 1 frame) ≡ quiet 26
-unfolding frameOf piecesAfter packOf runReports runAfter alternating stepIn eventIn totalIn spansOf spansAt lowestFrom
+unfolding frameOf piecesAfter packOf runReports runAfter alternating stepIn event total spansOf spansAt lowestFrom
 lost-by-1955 = refl
 
-pub silence-1955 : Heard rc5Receiver Nothing 1954 106 frame (command.Rc5 starred) (length frame) → ⊥
+pub silence-1955 : Heard machine (spansAt1MHz 2) OnlyNothing 1954 106 frame (command.Rc5 starred) (length frame) → ⊥
 unfolding Heard frameOf piecesAfter packOf
 silence-1955 heard =
     let (first, allowed, same) = heard broken 1955 (drop 1 frame) (omega arith) (is-near 106 (drop 1 frame) (drop 1 frame) tt) in

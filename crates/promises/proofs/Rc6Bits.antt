@@ -1,7 +1,7 @@
 -- The RC6 decoder at 1 MHz, from the middle of the toggle to the command: the step and the rule after it, the ticks of a duration, and the 16 bits.
 -- A bit is taken at the edge in its middle, where the clock is odd, so the bits are followed as turns; the toggle's second half may run into the first of them.
 -- Assumes nothing.
-use mathlib.Core.Path.{_≡_, refl, ap}
+use mathlib.Core.Path.{_≡_, refl}
 use mathlib.Core.Bool.{Bool, true, false, not, cond}
 use mathlib.Core.List.{List, _∷_, _++_}
 use Prim.Native.Nat.{ℕ, suc, _+_, _-_, _%_, _≤_, _<_}
@@ -9,52 +9,35 @@ use native.Mathlib.Nat.{div-one, mul-one, div-eq-of-lt}
 use native.Mathlib.Omega.{arith}
 use borrow.Author.Tests.{le-ltb, ne-eqb}
 use Rattle.spans.specs.Spans.{spansOf, spansAt}
+use Rattle.spans.specs.declared.Spans.{Spans}
 use Rattle.commands.specs.Rc6.{unpackOf}
 use Rattle.commands.specs.declared.Command.the-variants as command
 use Rattle.frames.specs.Frames.{bitSet}
-use Rattle.reports.specs.Run.{runReports, alternating}
+use Rattle.reports.specs.Edges.{edge, alternating}
+use Rattle.reports.specs.Machine.{event, total, runReports}
 use Rattle.reports.specs.declared.Status.the-variants as status
 use Rattle.rc6_encoder.specs.Encoder.{bitLevels, highestFirst, merged, inTicks}
 use Rattle.rc6_encoder.specs.EncoderSteps.{levelOf}
-use Rattle.rc6.specs.Decoder.{pastEnd, memoryOf, stepIn, afterData, statusOf, stood, ruled, eventIn, totalIn}
+use Rattle.rc6.specs.Decoder.{pastEnd, memoryOf, stepIn, afterData, statusOf, machine}
 use Rattle.rc6.specs.declared.decoder.Rc6State.the-variants.{Data}
 use Rattle.rc6.specs.declared.decoder.Rc6Memory.{Rc6Memory}
-use Rattle.rc6.specs.declared.decoder.Rc6Decoder.{Rc6Decoder}
-use Rattle.rc6.specs.declared.decoder.Rc6TotalIn.{Rc6TotalIn}
-use Rattle.rc6.proofs.Laws.{total-taken}
-use Rattle.promises.specs.Heard.{rc6Receiver, Near, none, more}
+use Rattle.promises.specs.Heard.{spansAt1MHz, Near, none, more}
 use Rattle.spans.proofs.Places.{placeAt, allRead, noneReads, reads-place, ends-place}
-use Rattle.promises.proofs.Run.{Works, Silent, Goes, Reports, onward, then}
+use Rattle.promises.proofs.Run.{Silent, Goes, Reports, onward, then}
 use Rattle.promises.proofs.Biphase.{Follows, End, followed}
 use Rattle.promises.proofs.Bits.{high, bit-joins-not, tick, to-odd, to-even, keeps-even, keeps-odd}
 use Rattle.promises.proofs.Rc6Frame.{rises, closing, bits-turn}
 
 -- ---- the step, and the rule after it
 
-abbrev pub lows : List ℕ
-lows = spansOf 3 1000000 .spans .low
+abbrev pub spans : Spans
+spans = spansAt1MHz 3
 
-abbrev pub highs : List ℕ
-highs = spansOf 3 1000000 .spans .high
+abbrev pub step : Rc6Memory → Bool → ℕ → Rc6Memory
+step m rising duration = stepIn spans m (edge rising duration)
 
-abbrev pub of : Rc6Memory → Rc6Decoder
-of m = record { spans = spansOf 3 1000000 .spans; memory = m }
-
-abbrev pub works : Works rc6Receiver
-works =
-    record {
-      Memory = Rc6Memory;
-      of = of;
-      step = stepIn lows highs;
-      told = λ m. ruled (stood m) .report;
-      kept = λ m. ruled (stood m) .memory;
-      Taken = λ m. pastEnd (m .state) ≡ false;
-      taken-report = λ m rising duration h. ap (λ (t : Rc6TotalIn). t .report) (total-taken lows highs m duration rising h);
-      taken-after = λ m rising duration h. ap (λ (t : Rc6TotalIn). of (t .memory)) (total-taken lows highs m duration rising h);
-    }
-
-pub receives : (m : Rc6Memory) → statusOf (m .state) ≡ status.Receiving → pastEnd (m .state) ≡ false → Silent works m
-receives m e h = record { nothing = rw e; same = rw e; taken = h }
+pub receives : (m : Rc6Memory) → statusOf (m .state) ≡ status.Receiving → pastEnd (m .state) ≡ false → Silent machine spans m
+receives m e h = record { nothing = rw e; same = rw e; taken = rw h }
 
 -- ---- the ticks of a duration: its place is one less
 
@@ -99,48 +82,48 @@ module _ (n : ℕ) (toggle : Bool) where
     within : place < 16
     is : m ≡ memoryOf (Data place) (high n (suc place)) 8 toggle clock
 
-  data-silent : (place bits clock : ℕ) → place < 16 → Silent works (memoryOf (Data place) bits 8 toggle clock)
+  data-silent : (place bits clock : ℕ) → place < 16 → Silent machine spans (memoryOf (Data place) bits 8 toggle clock)
   data-silent place bits clock h = receives _ refl (le-ltb 15 place (omega arith))
 
-  at-silent : (k : ℕ) (m : Rc6Memory) → At (suc k) m → Silent works m
+  at-silent : (k : ℕ) (m : Rc6Memory) → At (suc k) m → Silent machine spans m
   at-silent k m a = rw (a .is, data-next k) (data-silent k (high n (suc k)) (a .clock) (a .within))
 
-  half-silent : (k : ℕ) (m : Rc6Memory) → Half k m → Silent works m
+  half-silent : (k : ℕ) (m : Rc6Memory) → Half k m → Silent machine spans m
   half-silent k m a = rw (a .is) (data-silent k (high n (suc k)) (a .clock) (a .within))
 
   module _ (k : ℕ) (m : Rc6Memory) (x : ℕ) where
-    halfway : (rising : Bool) → At (suc k) m → 444 ≤ x + 53 → x ≤ 444 + 53 → Half k (stepIn lows highs m rising x)
+    halfway : (rising : Bool) → At (suc k) m → 444 ≤ x + 53 → x ≤ 444 + 53 → Half k (step m rising x)
     unfolding stepIn
     halfway rising a h j =
         let even = to-even (a .clock) (a .odd) in
         record { clock = tick (a .clock) 1; even = even; within = a .within; is = rw (a .is, data-next k, single x h j, even) }
 
-    half-still : (rising : Bool) → Half k m → 888 ≤ x + 53 → x ≤ 888 + 53 → Half k (stepIn lows highs m rising x)
+    half-still : (rising : Bool) → Half k m → 888 ≤ x + 53 → x ≤ 888 + 53 → Half k (step m rising x)
     unfolding stepIn
     half-still rising a h j =
         let even = keeps-even (a .clock) (a .even) in
         record { clock = tick (a .clock) 2; even = even; within = a .within; is = rw (a .is, double x h j, even) }
 
-    after-single : Half k m → 444 ≤ x + 53 → x ≤ 444 + 53 → At k (stepIn lows highs m (rises n k) x)
+    after-single : Half k m → 444 ≤ x + 53 → x ≤ 444 + 53 → At k (step m (rises n k) x)
     unfolding stepIn
     after-single a h j =
         let odd = to-odd (a .clock) (a .even) in
         record { clock = tick (a .clock) 1; odd = odd; within = omega (arith, a .within); is = rw (a .is, single x h j, odd, bit-joins-not n k) }
 
-    after-double : At (suc k) m → 888 ≤ x + 53 → x ≤ 888 + 53 → At k (stepIn lows highs m (rises n k) x)
+    after-double : At (suc k) m → 888 ≤ x + 53 → x ≤ 888 + 53 → At k (step m (rises n k) x)
     unfolding stepIn
     after-double a h j =
         let odd = keeps-odd (a .clock) (a .odd) in
         record { clock = tick (a .clock) 2; odd = odd; within = omega (arith, a .within); is = rw (a .is, data-next k, double x h j, odd, bit-joins-not n k) }
 
-    after-triple : Half k m → 1332 ≤ x + 53 → x ≤ 1332 + 53 → At k (stepIn lows highs m (rises n k) x)
+    after-triple : Half k m → 1332 ≤ x + 53 → x ≤ 1332 + 53 → At k (step m (rises n k) x)
     unfolding stepIn
     after-triple a h j =
         let thrice : a .clock + 2 + 1 ≡ a .clock + 3 = omega arith in
         let odd : tick (a .clock) 3 % 2 ≡ 1 = rw thrice at (to-odd (a .clock + 2) (omega (arith, a .even))) in
         record { clock = tick (a .clock) 3; odd = odd; within = omega (arith, a .within); is = rw (a .is, triple x h j, odd, bit-joins-not n k) }
 
-  abbrev follows : Follows works 444 53 (rises n)
+  abbrev follows : Follows machine spans 444 53 (rises n)
   follows =
       record {
         At = At;
@@ -154,11 +137,11 @@ module _ (n : ℕ) (toggle : Bool) where
 
   -- nothing is reported up to the command read off the bits n; where the last of them is 0 one edge follows
   abbrev pub Wanted : Rc6Memory → Bool → List ℕ → Type 0
-  Wanted = Goes works (Reports works (command.Rc6 (unpackOf n toggle)) (cond (bitSet n 0) 0 1))
+  Wanted = Goes machine spans (Reports machine spans (command.Rc6 (unpackOf n toggle)) (cond (bitSet n 0) 0 1))
 
   last : (one : Bool) (m : Rc6Memory) (rising : Bool) (durations : List ℕ) → End follows (closing (not one)) m rising durations
-      → Reports works (command.Rc6 (unpackOf n toggle)) (cond one 0 1) m rising durations
-  unfolding closing runReports alternating stepIn eventIn totalIn
+      → Reports machine spans (command.Rc6 (unpackOf n toggle)) (cond one 0 1) m rising durations
+  unfolding closing runReports alternating stepIn event total
   last true m rising durations (a, none) = rw (a .is, div-one, mul-one)
   last false m true durations (a, more {came = x} h j none) = rw (a .is, div-one, mul-one, single x h j)
   last false m false durations (a, more {came = x} h j none) = rw (a .is, div-one, mul-one, single x h j)
@@ -168,32 +151,32 @@ module _ (n : ℕ) (toggle : Bool) where
       → Near 53 (inTicks 444 (merged (levelOf (not one) 1) (highestFirst n 15))) durations → Wanted m (not one) durations
   rest one m durations q a near =
       rw (← q)
-      (then works (last (bitSet n 0)) (followed follows (closing (rises n 0)) 15 m (rises n 15) durations a (rw (bits-turn n 15) at (rw (← q) at near))))
+      (then machine spans (last (bitSet n 0)) (followed follows (closing (rises n 0)) 15 m (rises n 15) durations a (rw (bits-turn n 15) at (rw (← q) at near))))
 
   -- the toggle's second half stands: with the first bit's first half it is a triple, or a double and a single
   first : (stands one : Bool) (m : Rc6Memory) (durations : List ℕ) → bitSet n 15 ≡ one → Half 15 m
       → Near 53 (inTicks 444 (merged (levelOf stands 2) (bitLevels 1 one ++ highestFirst n 15))) durations → Wanted m stands durations
   unfolding merged
   first true true m durations q a (more {came = x} {restCame = xs} h j near) =
-      onward works m true x xs (half-silent 15 m a)
-      (rest true (stepIn lows highs m false x) xs q (rw q at (after-triple 15 m x a h j)) near)
+      onward machine spans m true x xs (half-silent 15 m a)
+      (rest true (step m false x) xs q (rw q at (after-triple 15 m x a h j)) near)
   first true false m durations q a (more {came = x} h₁ j₁ (more {came = y} {restCame = ys} h₂ j₂ near)) =
       let b = half-still 15 m x false a h₁ j₁ in
-      let t = stepIn lows highs m false x in
-      onward works m true x (y ∷ ys) (half-silent 15 m a)
-      (onward works t false y ys (half-silent 15 t b)
-      (rest false (stepIn lows highs t true y) ys q (rw q at (after-single 15 t y b h₂ j₂)) near))
+      let t = step m false x in
+      onward machine spans m true x (y ∷ ys) (half-silent 15 m a)
+      (onward machine spans t false y ys (half-silent 15 t b)
+      (rest false (step t true y) ys q (rw q at (after-single 15 t y b h₂ j₂)) near))
   first false true m durations q a (more {came = x} h₁ j₁ (more {came = y} {restCame = ys} h₂ j₂ near)) =
       let b = half-still 15 m x true a h₁ j₁ in
-      let t = stepIn lows highs m true x in
-      onward works m false x (y ∷ ys) (half-silent 15 m a)
-      (onward works t true y ys (half-silent 15 t b)
-      (rest true (stepIn lows highs t false y) ys q (rw q at (after-single 15 t y b h₂ j₂)) near))
+      let t = step m true x in
+      onward machine spans m false x (y ∷ ys) (half-silent 15 m a)
+      (onward machine spans t true y ys (half-silent 15 t b)
+      (rest true (step t false y) ys q (rw q at (after-single 15 t y b h₂ j₂)) near))
   first false false m durations q a (more {came = x} {restCame = xs} h j near) =
-      onward works m false x xs (half-silent 15 m a)
-      (rest false (stepIn lows highs m true x) xs q (rw q at (after-triple 15 m x a h j)) near)
+      onward machine spans m false x xs (half-silent 15 m a)
+      (rest false (step m true x) xs q (rw q at (after-triple 15 m x a h j)) near)
 
-  -- the data begin in the middle of the toggle, 18 ticks behind the leader's rise
+  -- the data begin in the middle of the toggle, 18 ticks after the leader's rise
   pub data-heard : (durations : List ℕ) → n < 65536 → Near 53 (inTicks 444 (merged (levelOf (not toggle) 2) (highestFirst n 16))) durations
       → Wanted (memoryOf (Data 15) 0 8 toggle 18) (not toggle) durations
   unfolding highestFirst

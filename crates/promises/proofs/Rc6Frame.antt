@@ -1,4 +1,4 @@
--- The RC6 frame at 1 MHz as turns: behind the leader, the start bit, the mode and the toggle its bits are turns of a single of 444, and where the last bit
+-- The RC6 frame at 1 MHz as turns: after the leader, the start bit, the mode and the toggle its bits are turns of a single of 444, and where the last bit
 -- is 0 a closing single follows. By induction on the bits that are left: a bit's first level merges with the one that stands, or has it written.
 -- Assumes nothing.
 use mathlib.Core.Path.{_≡_, refl, ap}
@@ -14,7 +14,7 @@ use Rattle.promises.proofs.Biphase.{turn, turns}
 abbrev pub rises : ℕ → ℕ → Bool
 rises bits place = not (bitSet bits place)
 
--- what is written behind the last bit, whose second level stands: "the closing low is not written"
+-- what is written after the last bit, whose second level stands: "the closing low is not written"
 unfoldable pub closing : Bool → List ℕ
 closing true = 444 ∷ []
 closing false = []
@@ -24,7 +24,7 @@ unfolding merged closing
 closing-is true = refl
 closing-is false = refl
 
--- one bit behind a level that stands: what is written up to its middle
+-- one bit after a level that stands: what is written up to its middle
 one-turn
     : (stands one : Bool) (levels : List Level) (rest tail : List ℕ) → inTicks 444 (merged (levelOf (not one) 1) levels) ≡ rest ++ tail
     → inTicks 444 (merged (levelOf stands 1) (bitLevels 1 one ++ levels)) ≡ turn 444 (Bool·beq stands (not one)) rest ++ tail

@@ -2,7 +2,7 @@
 -- mode and toggle are read edge by edge; and the bits are followed to the command. Assumes nothing.
 use mathlib.Core.Path.{_≡_, refl, sym, ap, _∙_}
 use mathlib.Core.Bool.{Bool, true, false, not, cond}
-use mathlib.Core.List.{List, _∷_, _++_, map}
+use mathlib.Core.List.{List, _∷_, _++_}
 use Prim.Native.Nat.{ℕ, suc, _+_, _*_, _≤_, _<_}
 use native.Mathlib.Omega.{arith}
 use lib.ListN.{length, drop}
@@ -13,30 +13,30 @@ use Rattle.commands.proofs.Laws.{rc6-fits, rc6-back}
 use Rattle.frames.specs.Frames.{bitSet}
 use Rattle.frames.proofs.LowBits.{same-bits}
 use Rattle.reports.specs.Reports.{reportNumbers}
-use Rattle.reports.specs.Run.{Edge, edge, alternating}
+use Rattle.reports.specs.Edges.{edge}
+use Rattle.reports.specs.Machine.{totalAfter, total, runAfter}
 use Rattle.reports.specs.declared.Report.the-variants as report
-use Rattle.reports.proofs.Run.{after-keeps}
+use Rattle.reports.proofs.Machine.{total-taken}
 use Rattle.reports.proofs.Either.{either}
 use Rattle.rc6_encoder.specs.Encoder.{high, bitLevels, highestFirst, levelsOf, merged, inTicks, frameOf, rc6Frame}
-use Rattle.rc6.specs.Decoder.{pastEnd, memoryOf, readAt, stepIn, newAt, edgeReport, edgeAfter, reportsOf, decoderAfter}
+use Rattle.rc6.specs.Decoder.{pastEnd, memoryOf, readAt, stepIn, machine}
 use Rattle.rc6.specs.declared.decoder.Rc6State.{Rc6State}
 use Rattle.rc6.specs.declared.decoder.Rc6State.the-variants.{Leading, LeadingPause, HeaderData, Trailing}
 use Rattle.rc6.specs.declared.decoder.Rc6Memory.{Rc6Memory}
-use Rattle.rc6.specs.declared.decoder.Rc6Decoder.{Rc6Decoder}
 use Rattle.rc6.proofs.Laws.{reachable-in-reach, run-reachable, bad-rise-opens}
-use Rattle.promises.specs.Heard.{Near, more, Nothing, nothing, Heard, rc6Receiver, EveryRc6Heard}
+use Rattle.promises.specs.Heard.{Near, more, OnlyNothing, nothing, Heard, EveryRc6Heard}
 use Rattle.spans.proofs.Places.{placeAt}
 use Rattle.promises.proofs.Run.{Silent, Goes, onward, heard, near-length}
-use Rattle.promises.proofs.Rc6Bits.{lows, highs, of, works, receives, single, double, triple, six, no-span, Wanted, data-heard}
+use Rattle.promises.proofs.Rc6Bits.{spans, receives, single, double, triple, six, no-span, Wanted, data-heard}
 
 -- ---- leader, start bit, mode and toggle, edge by edge
 
 -- an edge whose place is known
 reads-on
-    : {G : Rc6Memory → Bool → List ℕ → Type 0} (m next : Rc6Memory) (rising : Bool) (x place : ℕ) (durations : List ℕ) → Silent works m
-    → placeAt 3 x ≡ place → readAt m (not rising) place ≡ next → Goes works G next (not rising) durations → Goes works G m rising (x ∷ durations)
+    : {G : Rc6Memory → Bool → List ℕ → Type 0} (m next : Rc6Memory) (rising : Bool) (x place : ℕ) (durations : List ℕ) → Silent machine spans m
+    → placeAt 3 x ≡ place → readAt m (not rising) place ≡ next → Goes machine spans G next (not rising) durations → Goes machine spans G m rising (x ∷ durations)
 unfolding stepIn
-reads-on m next rising x place durations silent p e g = onward works m rising x durations silent (rw (p, e) g)
+reads-on m next rising x place durations silent p e g = onward machine spans m rising x durations silent (rw (p, e) g)
 
 -- before the data: the header's bits gathered so far, the toggle that an earlier frame left, and the clock
 abbrev headAt : Rc6State → ℕ → Bool → ℕ → Rc6Memory
@@ -45,7 +45,7 @@ headAt state header old clock = memoryOf state 0 header old clock
 module _ {G : Rc6Memory → Bool → List ℕ → Type 0} (old : Bool) (durations : List ℕ) (x₁ x₂ x₃ x₄ : ℕ) where
   -- the leader, the start bit and the mode's first bit
   leader : placeAt 3 x₁ ≡ 5 → placeAt 3 x₂ ≡ 1 → placeAt 3 x₃ ≡ 0 → placeAt 3 x₄ ≡ 1
-      → Goes works G (headAt (HeaderData 1) 8 old 11) true durations → Goes works G (headAt Leading 0 old 0) true (x₁ ∷ x₂ ∷ x₃ ∷ x₄ ∷ durations)
+      → Goes machine spans G (headAt (HeaderData 1) 8 old 11) true durations → Goes machine spans G (headAt Leading 0 old 0) true (x₁ ∷ x₂ ∷ x₃ ∷ x₄ ∷ durations)
   leader p₁ p₂ p₃ p₄ g =
       reads-on _ (headAt LeadingPause 0 old 6) true x₁ 5 _ (receives _ refl refl) p₁ refl
       (reads-on _ (headAt (HeaderData 3) 0 old 8) false x₂ 1 _ (receives _ refl refl) p₂ refl
@@ -54,7 +54,7 @@ module _ {G : Rc6Memory → Bool → List ℕ → Type 0} (old : Bool) (duration
 
   -- the mode's other two
   mode : placeAt 3 x₁ ≡ 0 → placeAt 3 x₂ ≡ 0 → placeAt 3 x₃ ≡ 0 → placeAt 3 x₄ ≡ 0
-      → Goes works G (headAt Trailing 8 old 15) true durations → Goes works G (headAt (HeaderData 1) 8 old 11) true (x₁ ∷ x₂ ∷ x₃ ∷ x₄ ∷ durations)
+      → Goes machine spans G (headAt Trailing 8 old 15) true durations → Goes machine spans G (headAt (HeaderData 1) 8 old 11) true (x₁ ∷ x₂ ∷ x₃ ∷ x₄ ∷ durations)
   mode p₁ p₂ p₃ p₄ g =
       reads-on _ (headAt (HeaderData 1) 8 old 12) true x₁ 0 _ (receives _ refl refl) p₁ refl
       (reads-on _ (headAt (HeaderData 0) 8 old 13) false x₂ 0 _ (receives _ refl refl) p₂ refl
@@ -83,23 +83,11 @@ module _ (n : ℕ) (fits : n < 65536) where
 
 -- ---- the first edge, and the whole
 
--- what any earlier edges leave has the spans of 1 MHz
-with-spans : (earlier : List Edge) → decoderAfter (newAt 1000000 .decoder) earlier ≡ of (decoderAfter (newAt 1000000 .decoder) earlier .memory)
-with-spans earlier =
-    after-keeps edgeAfter (λ d. d ≡ of (d .memory))
-    (λ d e h. ap (λ (s : Rc6Decoder). record { spans = s .spans; memory = edgeAfter d e .memory }) h)
-    (newAt 1000000 .decoder) earlier refl
-
 -- a rising edge after the silence opens a frame in every state that is taken, and all but the toggle is cleared
-module _ (m : Rc6Memory) (gap : ℕ) (taken : pastEnd (m .state) ≡ false) (silent : 2983 < gap) where
-  opens : stepIn lows highs m true gap ≡ headAt Leading 0 (m .toggle) 0
-  opens = bad-rise-opens lows highs m gap (no-span gap silent)
-
-  open-told : edgeReport (of m) (edge true gap) ≡ report.Nothing
-  open-told = works .taken-report m true gap taken ∙ ap (works .told) opens
-
-  open-kept : edgeAfter (of m) (edge true gap) ≡ of (headAt Leading 0 (m .toggle) 0)
-  open-kept = works .taken-after m true gap taken ∙ ap (λ (t : Rc6Memory). of (works .kept t)) opens
+opens : (m : Rc6Memory) (gap : ℕ) → pastEnd (m .state) ≡ false → 2983 < gap
+    → total machine spans m (edge true gap) ≡ record { report = report.Nothing; memory = headAt Leading 0 (m .toggle) 0 }
+opens m gap taken silent =
+    total-taken machine spans m (edge true gap) (rw taken) ∙ ap (totalAfter machine) (bad-rise-opens spans m gap (no-span gap silent))
 
 first-and-rest : (toggle : Bool) (n : ℕ) → length (frameOf toggle n 444) ≡ suc (length (drop 1 (frameOf toggle n 444)))
 unfolding frameOf levelsOf merged
@@ -114,24 +102,23 @@ module _ (sent : Rc6Command) (a : sent .addr < 256) (c : sent .cmd < 256) where
   frame = rc6Frame sent 1000000
 
   -- the edges that follow the command
-  abbrev behind : ℕ
-  behind = cond (bitSet (sent .cmd) 0) 0 1
+  abbrev after : ℕ
+  after = cond (bitSet (sent .cmd) 0) 0 1
 
-  -- any silence from 2983 on will do; the command settles at the edge that has so many behind it
-  sent-heard : (silence settles : ℕ) → 2983 ≤ silence → settles + behind ≡ length frame → Heard rc6Receiver Nothing silence 53 frame (command.Rc6 sent) settles
+  -- any silence from 2983 on will do; the command is reported at the edge that has so many after it
+  sent-heard : (silence reporting : ℕ) → 2983 ≤ silence → reporting + after ≡ length frame → Heard machine spans OnlyNothing silence 53 frame (command.Rc6 sent) reporting
   unfolding Heard packOf
-  sent-heard silence settles over place earlier gap durations silent near =
+  sent-heard silence reporting over place earlier gap durations silent near =
       let n = packOf sent in
-      let m = decoderAfter (newAt 1000000 .decoder) earlier .memory in
-      let taken = reachable-in-reach (m .state) (run-reachable 1000000 earlier) in
+      let m = runAfter machine spans (machine .fresh) earlier in
+      let taken = reachable-in-reach (m .state) (run-reachable spans earlier) in
       let above : 2983 < gap = omega arith in
       let long : length frame ≡ suc (length durations) = first-and-rest (sent .toggle) n ∙ ap suc (sym (near-length near)) in
       let go = headed n (rc6-fits sent a c) (sent .toggle) (m .toggle) durations near in (
         reportNumbers report.Nothing,
         nothing,
-        ap (λ (d : Rc6Decoder). map reportNumbers (reportsOf d (alternating true (gap ∷ durations)))) (with-spans earlier)
-            ∙ heard works frame durations gap (of m) report.Nothing (command.Rc6 sent) behind settles (headAt Leading 0 (m .toggle) 0)
-            long place (open-told m gap taken above) (open-kept m gap taken above) (receives _ refl refl)
+        heard machine spans frame durations gap m report.Nothing (command.Rc6 sent) after reporting (headAt Leading 0 (m .toggle) 0)
+            long place (opens m gap taken above) (receives _ refl refl)
             (rw (rc6-back sent a c, last-bit (sent .addr) (sent .cmd)) at go),
       )
 

@@ -1,4 +1,4 @@
--- RC6's bounds are tight: with one tick more of wrong, or a silence equal to the bound, the demand does not hold, for address 0, command 0 and a clear toggle.
+-- RC6's bounds are tight: with one tick more of deviation, or a silence equal to the bound, the demand does not hold, for address 0, command 0 and a clear toggle.
 -- One run each, computed up to the edge that would report the command. And that frame's command is reported at its 43rd edge of 44, not at its last.
 -- Assumes nothing.
 use mathlib.Core.Path.{_≡_, refl, sym, _∙_}
@@ -12,10 +12,11 @@ use Rattle.spans.specs.Lookup.{lowestFrom}
 use Rattle.commands.specs.Rc6.{packOf}
 use Rattle.commands.specs.declared.Command.the-variants as command
 use Rattle.commands.specs.declared.rc6.Rc6Command.{Rc6Command}
-use Rattle.reports.specs.Run.{Edge, edge, runReports, runAfter, alternating}
-use Rattle.rc6.specs.Decoder.{stepIn, eventIn, totalIn}
+use Rattle.reports.specs.Edges.{Edge, edge, alternating}
+use Rattle.reports.specs.Machine.{event, total, runReports, runAfter}
+use Rattle.rc6.specs.Decoder.{stepIn, machine}
 use Rattle.rc6_encoder.specs.Encoder.{highestFirst, levelsOf, merged, frameOf, rc6Frame}
-use Rattle.promises.specs.Heard.{Heard, Nothing, rc6Receiver}
+use Rattle.promises.specs.Heard.{Heard, OnlyNothing, spansAt1MHz}
 use Rattle.promises.proofs.Tight.{is-near, differ}
 use Rattle.promises.proofs.Rc6Heard.{rc6-heard}
 
@@ -30,9 +31,9 @@ abbrev shortHigh : List ℕ
 shortHigh = 2664 ∷ 888 ∷ 390 ∷ drop 4 frame
 
 -- so nothing is reported at the 43rd edge
-pub wrong-54 : Heard rc6Receiver Nothing 2983 54 frame (command.Rc6 zeros) 43 → ⊥
-unfolding Heard frameOf levelsOf highestFirst merged packOf runReports runAfter alternating stepIn eventIn totalIn spansOf spansAt lowestFrom
-wrong-54 heard =
+pub deviation-54 : Heard machine (spansAt1MHz 3) OnlyNothing 2983 54 frame (command.Rc6 zeros) 43 → ⊥
+unfolding Heard frameOf levelsOf highestFirst merged packOf runReports runAfter alternating stepIn event total spansOf spansAt lowestFrom
+deviation-54 heard =
     let (first, allowed, same) = heard [] 2984 shortHigh (omega arith) (is-near 54 (drop 1 frame) shortHigh tt) in
     differ 42 refl refl (sym same)
 
@@ -40,9 +41,9 @@ wrong-54 heard =
 abbrev leader : List Edge
 leader = edge true 2984 ∷ edge false 2664 ∷ []
 
--- behind it a rising edge after 2983 is 6 ticks and no 2: it ends that frame and opens none
-pub silence-2983 : Heard rc6Receiver Nothing 2982 53 frame (command.Rc6 zeros) 43 → ⊥
-unfolding Heard frameOf levelsOf highestFirst merged packOf runReports runAfter alternating stepIn eventIn totalIn spansOf spansAt lowestFrom
+-- after it a rising edge after 2983 is 6 ticks and no 2: it ends that frame and opens none
+pub silence-2983 : Heard machine (spansAt1MHz 3) OnlyNothing 2982 53 frame (command.Rc6 zeros) 43 → ⊥
+unfolding Heard frameOf levelsOf highestFirst merged packOf runReports runAfter alternating stepIn event total spansOf spansAt lowestFrom
 silence-2983 heard =
     let (first, allowed, same) = heard leader 2983 (drop 1 frame) (omega arith) (is-near 53 (drop 1 frame) (drop 1 frame) tt) in
     differ 42 refl refl (sym same)
@@ -53,12 +54,12 @@ pub frame-44 : length frame ≡ 44
 unfolding frameOf levelsOf highestFirst merged packOf
 frame-44 = refl
 
-pub at-the-43rd : Heard rc6Receiver Nothing 2983 53 frame (command.Rc6 zeros) 43
+pub at-the-43rd : Heard machine (spansAt1MHz 3) OnlyNothing 2983 53 frame (command.Rc6 zeros) 43
 unfolding frameOf levelsOf highestFirst merged packOf
 at-the-43rd = rc6-heard 0 0 false (omega arith) (omega arith)
 
 -- both would be said of one run
-pub not-at-the-44th : Heard rc6Receiver Nothing 2983 53 frame (command.Rc6 zeros) 44 → ⊥
+pub not-at-the-44th : Heard machine (spansAt1MHz 3) OnlyNothing 2983 53 frame (command.Rc6 zeros) 44 → ⊥
 unfolding Heard frameOf levelsOf highestFirst merged packOf
 not-at-the-44th heard =
     let near = is-near 53 (drop 1 frame) (drop 1 frame) tt in

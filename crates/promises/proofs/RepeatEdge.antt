@@ -1,146 +1,88 @@
--- The captioner's question, one edge: what it does to the bits, what it reports, and who clears them (specs/Repeat). An edge that is taken is a pulse and the
--- rule after it (RepeatPulse); one that is refused leaves all. Assumes nothing.
+-- The captioner's question, one edge: what it does to the bits, what it reports, and who clears them (specs/Repeat). By what an edge can do (RepeatPulse).
+-- Assumes nothing.
 use mathlib.Core.Path.{_≡_, refl, sym, ap, _∙_}
-use mathlib.Core.Bool.{Bool, true, false}
+use mathlib.Core.Bool.{Bool, true, false, cond, false≢true}
 use Prim.Native.Nat.{ℕ, zero, suc, _^_, _%_, _/_, _<_}
 use native.Mathlib.Nat.{mod-lt}
 use native.Mathlib.Omega.{arith}
 use lib.Bits.{bitOr, or-zero-r, or-shr, or-mod}
 use borrow.Author.Tests.{eqb-true, eq-eqb}
+use Rattle.spans.specs.declared.Spans.{Spans}
 use Rattle.commands.specs.Nec.{unpackOf}
+use Rattle.commands.specs.declared.Command.the-variants as command
 use Rattle.commands.specs.declared.nec.NecCommand.{NecCommand}
 use Rattle.frames.specs.Frames.{bitSet}
-use Rattle.reports.specs.Run.{Edge}
+use Rattle.reports.specs.Edges.{Edge}
+use Rattle.reports.specs.Machine.{total}
 use Rattle.reports.specs.declared.Fault.{Fault}
 use Rattle.reports.specs.declared.Report.{Report}
 use Rattle.reports.specs.declared.Report.the-variants as report
 use Rattle.reports.proofs.Apart.{reports-apart}
-use Rattle.reports.proofs.Either.{either}
 use Rattle.nec.specs.Decoder as nec
-use Rattle.nec.specs.declared.decoder.NecDecoder.{NecDecoder}
 use Rattle.nec.specs.declared.decoder.NecMemory.{NecMemory}
-use Rattle.nec.specs.declared.decoder.NecState.the-variants.{Init, Receiving, Error}
-use Rattle.nec.specs.declared.decoder.NecTotalIn.{NecTotalIn}
-use Rattle.nec.proofs.Laws.{total-taken}
-use Rattle.promises.specs.Repeat.{reads, opens, taken, gatheredAt, Reported, Failed}
+use Rattle.nec.specs.declared.decoder.NecState.{NecState}
+use Rattle.nec.specs.declared.decoder.NecState.the-variants.{Init}
+use Rattle.promises.specs.Repeat.{opens, taken, after, synced, Reported, Failed}
 use Rattle.promises.specs.Repeat.{OnlySyncClears, NoBitLost, ErrorClearsNothing, CommandClearsNothing, ResetClearsNothing}
-use Rattle.promises.proofs.RepeatPulse.{told, necCommand, ended, framed, receiving, Waits, told-command, told-repeat, told-waiting, told-error, told-framed, ruled-framed, ruled-ended, ruled-bits, nextAt, at-bits, at-past, at-bare, at-waiting, at-framed, at-opens}
+use Rattle.promises.proofs.RepeatPulse.{Does, DoesAt, opening, idling, gathering, repeating, ending, breaking, refusing, does}
 
--- ---- one edge
+abbrev pub necCommand : NecCommand → Report
+necCommand c = report.Command (command.Nec c)
 
-module _ (d : NecDecoder) (edge : Edge) where
-  abbrev pub next : NecMemory
-  next = nextAt (d .memory .state) (reads d edge) (d .memory .bits) (edge .duration) (edge .rising)
+module _ (spans : Spans) (m : NecMemory) (edge : Edge) (c : NecCommand) (said : Reported spans m edge c) where
+  -- what is reported in numbers is that report
+  pub report-is : total nec.machine spans m edge .report ≡ necCommand c
+  report-is = reports-apart (total nec.machine spans m edge .report) (necCommand c) said
 
-  stepped
-      : (rising : Bool)
-      → nec.stepIn (d .spans .low) (d .spans .high) (d .memory) rising (edge .duration)
-      ≡ nextAt (d .memory .state) (reads d edge) (d .memory .bits) (edge .duration) rising
-  unfolding nec.stepIn
-  stepped true = refl
-  stepped false = refl
-
-  abbrev total : NecTotalIn
-  total = nec.totalIn (d .spans .low) (d .spans .high) (d .memory) (edge .rising) (edge .duration)
-
-  refused : nec.pastEnd (d .memory .state) ≡ true → total ≡ record { report = report.Refused 4; memory = d .memory }
-  unfolding nec.totalIn nec.eventIn
-  refused h = rw h
-
-  module _ (h : nec.pastEnd (d .memory .state) ≡ false) where
-    total-ruled : total ≡ nec.ruled (nec.stood next)
-    total-ruled =
-        total-taken (d .spans .low) (d .spans .high) (d .memory) (edge .duration) (edge .rising) h
-        ∙ ap (λ (m : NecMemory). nec.ruled (nec.stood m)) (stepped (edge .rising))
-
-    pub reported : nec.edgeReport d edge ≡ told (next .state) (next .bits)
-    reported = ap (λ (t : NecTotalIn). t .report) total-ruled
-
-    after-bits : nec.edgeAfter d edge .memory .bits ≡ next .bits
-    after-bits = ap (λ (t : NecTotalIn). t .memory .bits) total-ruled ∙ ruled-bits next
-
-    after-ended : ended (next .state) ≡ true → nec.edgeAfter d edge .memory .state ≡ Init
-    after-ended e = ap (λ (t : NecTotalIn). t .memory .state) total-ruled ∙ ruled-ended next (next .state) refl e
-
-    after-framed
-        : framed (next .state) ≡ true → nec.edgeReport d edge ≡ report.Nothing → receiving (nec.edgeAfter d edge .memory .state) ≡ true
-    after-framed f silent =
-        rw total-ruled (ruled-framed next (next .state) (next .bits) refl f (sym reported ∙ silent))
-
-  -- what is reported is no refusal
-  taken-told : (r : Report) → nec.edgeReport d edge ≡ r → (r ≡ report.Refused 4 → true ≡ false) → nec.pastEnd (d .memory .state) ≡ false
-  taken-told r said other = go (nec.pastEnd (d .memory .state)) refl
-    where
-      go : (past : Bool) → nec.pastEnd (d .memory .state) ≡ past → past ≡ false
-      go true h = other (sym said ∙ ap (λ (t : NecTotalIn). t .report) (refused h))
-      go false h = refl
-
-  -- what is told in numbers is that report
-  pub command-told : (c : NecCommand) → Reported d edge c → nec.edgeReport d edge ≡ necCommand c
-  command-told c said = reports-apart (nec.edgeReport d edge) (necCommand c) said
-
-  pub error-told : (fault : Fault) → Failed d edge fault → nec.edgeReport d edge ≡ report.Error fault
-  error-told fault said = reports-apart (nec.edgeReport d edge) (report.Error fault) said
-
-  -- and a step was taken, whose state and bits it is told of
-  command-next
-      : (c : NecCommand) → Reported d edge c
-      → (nec.pastEnd (d .memory .state) ≡ false) × (told (next .state) (next .bits) ≡ necCommand c)
-  command-next c said =
-      let h = taken-told (necCommand c) (command-told c said) (λ h. cc) in
-      (h, sym (reported h) ∙ command-told c said)
-
-  error-next
-      : (fault : Fault) → Failed d edge fault
-      → (nec.pastEnd (d .memory .state) ≡ false) × (told (next .state) (next .bits) ≡ report.Error fault)
-  error-next fault said =
-      let h = taken-told (report.Error fault) (error-told fault said) (λ h. cc) in
-      (h, sym (reported h) ∙ error-told fault said)
+  pub reported : DoesAt spans m edge (necCommand c)
+  reported = rw report-is at (does spans m edge)
 
 -- ---- who clears the bits
 
+bits-after
+    : {state : NecState} {bits bit : ℕ} {opened : Bool} {r : Report} {m : NecMemory} → Does state bits bit opened r m
+    → m .bits ≡ cond opened 0 (bitOr bits bit)
+bits-after opening = refl
+bits-after idling = sym (or-zero-r _)
+bits-after (gathering e) = e
+bits-after (repeating h) = sym (or-zero-r _)
+bits-after (ending h e) = e
+bits-after (breaking h) = sym (or-zero-r _)
+bits-after refusing = sym (or-zero-r _)
+
 pub only-sync-clears : OnlySyncClears
-unfolding opens taken
-only-sync-clears d edge = go (nec.pastEnd (d .memory .state)) refl
-  where
-    go : (past : Bool) → nec.pastEnd (d .memory .state) ≡ past → nec.edgeAfter d edge .memory .bits ≡ gatheredAt d edge (d .memory .bits)
-    go true h =
-        ap (λ (t : NecTotalIn). t .memory .bits) (refused d edge h)
-        ∙ at-past (d .memory .state) (reads d edge) (d .memory .bits) (edge .duration) (edge .rising) h
-    go false h = after-bits d edge h ∙ at-bits (d .memory .state) (reads d edge) (d .memory .bits) (edge .duration) (edge .rising) h
+only-sync-clears spans m edge = bits-after (does spans m edge)
 
--- a sync that opens leaves a decoder that forgot all before it
+-- a sync that opens reports nothing, and all before it is forgotten
+forgets : {state : NecState} {bits bit : ℕ} {r : Report} {m : NecMemory} → Does state bits bit true r m → (r ≡ report.Nothing) × (m ≡ synced)
+forgets opening = (refl, refl)
+
 pub sync-forgets
-    : (d : NecDecoder) (edge : Edge) → opens d edge ≡ true
-    → (nec.edgeReport d edge ≡ report.Nothing) × (nec.edgeAfter d edge ≡ record { spans = d .spans; memory = nec.next (Receiving 0) 0 })
-unfolding opens
-sync-forgets d edge h =
-    let (within, opened) = at-opens (d .memory .state) (reads d edge) (d .memory .bits) (edge .duration) (edge .rising) h in
-    let all = total-ruled d edge within ∙ ap (λ (m : NecMemory). nec.ruled (nec.stood m)) opened in
-    (ap (λ (t : NecTotalIn). t .report) all, ap (λ (t : NecTotalIn). record { spans = d .spans; memory = t .memory }) all)
+    : (spans : Spans) (m : NecMemory) (edge : Edge) → opens spans m edge ≡ true
+    → (total nec.machine spans m edge .report ≡ report.Nothing) × (after spans m edge ≡ synced)
+sync-forgets spans m edge h = forgets (rw h at (does spans m edge))
 
--- what is reported does not open
-opens-not : (d : NecDecoder) (edge : Edge) (r : Report) → nec.edgeReport d edge ≡ r → (r ≡ report.Nothing → true ≡ false) → opens d edge ≡ false
-opens-not d edge r said other = go (opens d edge) refl
-  where
-    go : (test : Bool) → opens d edge ≡ test → test ≡ false
-    go true h = other (sym said ∙ sync-forgets d edge h .0)
-    go false h = refl
+-- after an error the state is Init again, and the bits are those there were
+breaks : {state : NecState} {bits bit : ℕ} {opened : Bool} {fault : Fault} {m : NecMemory} → Does state bits bit opened (report.Error fault) m → m ≡ nec.next Init bits
+breaks (breaking h) = refl
+
+pub error-back : (spans : Spans) (m : NecMemory) (edge : Edge) (fault : Fault) → Failed spans m edge fault → after spans m edge ≡ nec.next Init (m .bits)
+error-back spans m edge fault said =
+    breaks (rw (reports-apart (total nec.machine spans m edge .report) (report.Error fault) said) at (does spans m edge))
 
 pub error-clears-nothing : ErrorClearsNothing
-error-clears-nothing d edge fault said =
-    let (h, tells) = error-next d edge fault said in
-    after-bits d edge h
-    ∙ at-bare (d .memory .state) (reads d edge) (d .memory .bits) (edge .duration) (edge .rising)
-    (told-error (next d edge .state) (next d edge .bits) fault tells .0)
+error-clears-nothing spans m edge fault said = ap (λ (m : NecMemory). m .bits) (error-back spans m edge fault said)
+
+-- a command adds the bit that the edge brings
+adds : {state : NecState} {bits bit : ℕ} {opened : Bool} {c : NecCommand} {m : NecMemory} → Does state bits bit opened (necCommand c) m → m .bits ≡ bitOr bits bit
+adds (repeating h) = sym (or-zero-r _)
+adds (ending h e) = e
 
 pub command-clears-nothing : CommandClearsNothing
-command-clears-nothing d edge c said =
-    let none = opens-not d edge (necCommand c) (command-told d edge c said) (λ h. cc) in
-    only-sync-clears d edge ∙ rw none
+command-clears-nothing spans m edge c said = adds (reported spans m edge c said)
 
 pub reset-clears-nothing : ResetClearsNothing
-reset-clears-nothing d = refl
+reset-clears-nothing m = refl
 
 -- a bit that is 1 on one side of an or
 or-one : (x : ℕ) → x < 2 → bitOr 1 x ≡ 1
@@ -156,69 +98,39 @@ or-keeps a b n h =
     ∙ ap (λ (x : ℕ). bitOr x (b / 2 ^ n % 2 ^ 1)) one ∙ or-one (b / 2 ^ n % 2) (mod-lt (b / 2 ^ n) (omega arith)))
 
 pub no-bit-lost : NoBitLost
-no-bit-lost d edge n none h = rw (only-sync-clears d edge, none) (or-keeps (d .memory .bits) (taken d edge) n h)
+no-bit-lost spans m edge n none h = rw (only-sync-clears spans m edge, none) (or-keeps (m .bits) (taken spans m edge) n h)
 
 -- ---- what is reported of the bits
 
--- a command is read off the bits that are left, and the decoder is back in Init
+-- a command is read off the bits that are left, and the state is Init again
 pub command-read
-    : (d : NecDecoder) (edge : Edge) (c : NecCommand) → Reported d edge c
-    → (c ≡ unpackOf (nec.edgeAfter d edge .memory .bits) (c .repeat)) × (nec.edgeAfter d edge .memory .state ≡ Init)
-command-read d edge c said =
-    let (h, tells) = command-next d edge c said in
-    let (read, back) = told-command (next d edge .state) (next d edge .bits) c tells in
-    (read ∙ ap (λ (bits : ℕ). unpackOf bits (c .repeat)) (sym (after-bits d edge h)), after-ended d edge h back)
+    : {state : NecState} {bits bit : ℕ} {opened : Bool} {c : NecCommand} {m : NecMemory} → Does state bits bit opened (necCommand c) m
+    → (c ≡ unpackOf (m .bits) (c .repeat)) × (m .state ≡ Init)
+unfolding unpackOf
+command-read (repeating h) = (refl, refl)
+command-read (ending h e) = (refl, refl)
 
 -- a repeat is read off the bits that there were
-pub repeat-read : (d : NecDecoder) (edge : Edge) (c : NecCommand) → Reported d edge c → c .repeat ≡ true → c ≡ unpackOf (d .memory .bits) true
-repeat-read d edge c said again =
-    let tells = command-next d edge c said .1 in
-    let kept = told-repeat (next d edge .state) (next d edge .bits) c tells again in
-    let same = at-bare (d .memory .state) (reads d edge) (d .memory .bits) (edge .duration) (edge .rising) kept in
-    told-command (next d edge .state) (next d edge .bits) c tells .0
-    ∙ ap (λ (repeat : Bool). unpackOf (next d edge .bits) repeat) again
-    ∙ ap (λ (bits : ℕ). unpackOf bits true) same
-
--- after an error the decoder is back in Init
-pub error-back : (d : NecDecoder) (edge : Edge) (fault : Fault) → Failed d edge fault → nec.edgeAfter d edge .memory .state ≡ Init
-error-back d edge fault said =
-    let (h, tells) = error-next d edge fault said in
-    after-ended d edge h (told-error (next d edge .state) (next d edge .bits) fault tells .1)
+pub repeat-read
+    : {state : NecState} {bits bit : ℕ} {opened : Bool} {c : NecCommand} {m : NecMemory} → Does state bits bit opened (necCommand c) m
+    → c .repeat ≡ true → c ≡ unpackOf bits true
+unfolding unpackOf
+repeat-read (repeating h) again = refl
+repeat-read (ending h e) again = absurd (false≢true again)
 
 -- ---- from Init, where no sync opens: Init stays, no bit is added, and a command is a repeat
 
-none-taken : (d : NecDecoder) (edge : Edge) → d .memory .state ≡ Init → taken d edge ≡ 0
-unfolding taken
-none-taken d edge init = either (λ (bit : ℕ). bit ≡ 0) (edge .rising) (rw init) refl
+pub from-init
+    : {state : NecState} {bits bit : ℕ} {opened : Bool} {r : Report} {m : NecMemory} → state ≡ Init → Does state bits bit opened r m
+    → Does Init bits bit opened r m
+from-init init done = rw init at done
 
-module _ (d : NecDecoder) (edge : Edge) (init : d .memory .state ≡ Init) (none : opens d edge ≡ false) where
-  pub within : nec.pastEnd (d .memory .state) ≡ false
-  within = rw init
+pub waits : {bits bit : ℕ} {r : Report} {m : NecMemory} → Does Init bits bit false r m → (m .state ≡ Init) × (m .bits ≡ bits)
+waits idling = (refl, refl)
+waits (repeating h) = (refl, refl)
+waits (ending h e) = absurd (false≢true h)
+waits (breaking h) = absurd (false≢true h)
 
-  pub waits : Waits (next d edge)
-  unfolding opens
-  waits = at-waiting (d .memory .state) (reads d edge) (d .memory .bits) (edge .duration) (edge .rising) init none
-
-  pub stays : nec.edgeAfter d edge .memory .state ≡ Init
-  stays = after-ended d edge within (waits .1)
-
-  pub keeps : nec.edgeAfter d edge .memory .bits ≡ d .memory .bits
-  keeps = only-sync-clears d edge ∙ rw (none, none-taken d edge init) (or-zero-r (d .memory .bits))
-
-pub init-repeats : (d : NecDecoder) (edge : Edge) (c : NecCommand) → d .memory .state ≡ Init → Reported d edge c → c .repeat ≡ true
-init-repeats d edge c init said =
-    let none = opens-not d edge (necCommand c) (command-told d edge c said) (λ h. cc) in
-    told-waiting (next d edge .state) (next d edge .bits) c (waits d edge init none .0) (command-next d edge c said .1)
-
--- ---- while a frame is being received: it goes on until something is reported, and that is no repeat
-
-module _ (d : NecDecoder) (edge : Edge) (frame : receiving (d .memory .state) ≡ true) where
-  frames : framed (next d edge .state) ≡ true
-  frames = at-framed (d .memory .state) (reads d edge) (d .memory .bits) (edge .duration) (edge .rising) frame
-
-  pub receives : nec.edgeReport d edge ≡ report.Nothing → receiving (nec.edgeAfter d edge .memory .state) ≡ true
-  receives silent = after-framed d edge (taken-told d edge report.Nothing silent (λ h. cc)) frames silent
-
-  pub no-repeat : (c : NecCommand) → Reported d edge c → c .repeat ≡ false
-  no-repeat c said =
-      told-framed (next d edge .state) (next d edge .bits) c frames (command-next d edge c said .1)
+pub waits-read : {bits bit : ℕ} {opened : Bool} {c : NecCommand} {m : NecMemory} → Does Init bits bit opened (necCommand c) m → c ≡ unpackOf bits true
+waits-read (repeating h) = refl
+waits-read (ending h e) = absurd (false≢true h)

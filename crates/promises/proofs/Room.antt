@@ -5,13 +5,14 @@ use mathlib.Core.Bool.{Bool, true, false, cond}
 use mathlib.Core.List.{List}
 use Prim.Native.Nat.{ℕ, _≤_}
 use native.Mathlib.Omega.{arith}
-use borrow.Author.Tests.{le-ltb}
+use borrow.Author.Tests.{le-leb}
 use lib.ListN.{length, take, drop, length-append}
 use lib.Seq.{take-append-seam}
-use Rattle.frames.specs.Frames.{encodedOf, leftOf, onto, tooShort}
+use Rattle.refusals.specs.Refusals.{encodeTaken}
+use Rattle.frames.specs.Frames.{onto}
 use Rattle.frames.specs.declared.Encoded.{Encoded}
 use Rattle.frames.specs.declared.Encoded.the-variants.{Wrote, Refused, Short}
-use Rattle.receiver.specs.Encoder.{encodeTaken, encodedBy, leftBy}
+use Rattle.protocols.specs.Encoder.{encodedBy, leftBy}
 
 -- an encoder wrote the frame: it is what stands in so many places of what it left
 pub record Written (protocol : ℕ) (frame left : List ℕ) (count : ℕ) : Type 0 where
@@ -22,16 +23,13 @@ pub record Written (protocol : ℕ) (frame left : List ℕ) (count : ℕ) : Type
 
 -- an encoder at 1 MHz whose frame has room
 module _ (protocol : ℕ) (lent frame : List ℕ) (room : length frame ≤ length lent) where
-  fits : tooShort lent frame ≡ false
-  fits = le-ltb _ _ room
-
   picks : encodedBy protocol 1000000 lent frame ≡ cond (encodeTaken protocol) (Wrote (length frame)) (Refused 2)
-  unfolding encodedOf
-  picks = rw fits
+  unfolding encodedBy
+  picks = rw (le-leb _ _ room)
 
   laid : encodeTaken protocol ≡ true → leftBy protocol 1000000 lent frame ≡ onto frame lent
-  unfolding leftOf
-  laid taken = rw (taken, fits)
+  unfolding leftBy
+  laid taken = rw (taken, le-leb _ _ room)
 
   pub written
       : (encoded : Encoded) → encoded ≡ encodedBy protocol 1000000 lent frame → (left : List ℕ) → left ≡ leftBy protocol 1000000 lent frame
@@ -41,12 +39,12 @@ module _ (protocol : ℕ) (lent frame : List ℕ) (room : length frame ≤ lengt
       go : (test : Bool) → encodeTaken protocol ≡ test → Wrote count ≡ cond test (Wrote (length frame)) (Refused 2) → Written protocol frame left count
       go true t e =
           let all : count ≡ length frame = cc in
-          let behind = drop (length frame) lent in
-          let same : take count left ≡ frame = rw (all, stays, laid t) (take-append-seam frame behind) in
+          let after = drop (length frame) lent in
+          let same : take count left ≡ frame = rw (all, stays, laid t) (take-append-seam frame after) in
           record {
             taken = t;
             whole = same;
-            fits = rw (stays, laid t) (omega (arith, length-append frame behind));
+            fits = rw (stays, laid t) (omega (arith, length-append frame after));
             counted = all ∙ ap length (sym same);
           }
       go false t e = let z : _≡_ {A = ℕ} 0 1 = cc in absurd (omega arith)

@@ -1,4 +1,4 @@
--- What `send` answers where demand 3's hypotheses hold: the command that was sent, at the edge that settles it, and nothing besides. It follows from demand 3
+-- What `send` answers where demand 3's hypotheses hold: the command that was sent, at the edge that settles the last bit, and nothing besides. It follows from demand 3
 -- of the protocol's own decoder by two laws: reports with the numbers that `onlyAt` lists come to that answer, and a decoder by number reports as the
 -- protocol's own.
 -- Assumes nothing.
@@ -9,25 +9,28 @@ use Prim.Native.Nat.{ℕ, zero, suc, _+_, _-_, _≤_, _<_}
 use native.Mathlib.Nat.{add-zero}
 use native.Mathlib.Omega.{arith}
 use lib.ListN.{length, drop}
+use Rattle.refusals.specs.Refusals.{encodeTaken}
+use Rattle.spans.specs.declared.Spans.{Spans}
+use Rattle.commands.specs.Command.{protocolOf}
 use Rattle.commands.specs.declared.Command.{Command}
-use Rattle.commands.proofs.Laws.{rc6-fits}
 use Rattle.frames.specs.Frames.{bitSet}
 use Rattle.reports.specs.Reports.{Numbers, reportNumbers}
 use Rattle.reports.specs.declared.Report.{Report}
 use Rattle.reports.specs.declared.Report.the-variants as report
-use Rattle.reports.specs.Run.{Edge, runReports, runAfter, alternating}
+use Rattle.reports.specs.Edges.{Edge}
+use Rattle.reports.specs.Machine.{Machine, Inside, runAfter}
 use Rattle.reports.proofs.Apart.{all-apart}
-use Rattle.reports.proofs.Run.{after-joined}
-use Rattle.receiver.specs.Decoder.{edgeAfter, reportsOf, decoderAfter}
-use Rattle.receiver.specs.Encoder.{encodeTaken, frameBy}
-use Rattle.receiver.specs.declared.decoder.Decoder.{Decoder}
-use Rattle.receiver.proofs.Laws.{of-nec, nec-reports, nec-after, of-rc5, rc5-reports, rc5-after, of-rc6, rc6-reports, rc6-after}
+use Rattle.reports.proofs.Machine.{after-joined, reports-own, after-own}
+use Rattle.protocols.specs.Decoder.{machine, decoderOf, decoderAfter}
+use Rattle.protocols.specs.Encoder.{frameOf}
+use Rattle.protocols.specs.declared.decoder.Memory.{Memory}
+use Rattle.protocols.specs.declared.decoder.Decoder.{Decoder}
+use Rattle.protocols.proofs.Laws.{nec-own, rc5-own, rc6-own}
 use Rattle.rc5_encoder.proofs.Frame as rc5
 use Rattle.rc6_encoder.proofs.Frame as rc6
-use Rattle.promises.specs.Heard.{Receiver, Near, quiet, onlyAt, Heard}
-use Rattle.promises.specs.Heard.{necReceiver, rc5Receiver, rc6Receiver}
-use Rattle.promises.specs.Send.{wronged, edgesSent, noneYet, notedAll, summaryOf, heardOf, sentOf}
-use Rattle.promises.specs.Send.{Answered, SentHeard, EveryNecSent, EveryRc5Sent, EveryRc6Sent}
+use Rattle.promises.specs.Heard.{Near, quiet, onlyAt, Heard}
+use Rattle.promises.specs.Send.{deviated, edgesSent, noneYet, notedAll, summaryOf, heardOf, sentOf}
+use Rattle.promises.specs.Send.{OnlyHeard, SentHeard, EveryNecSent, EveryRc5Sent, EveryRc6Sent}
 use Rattle.promises.specs.declared.send.Later.{Later}
 use Rattle.promises.proofs.Numbered.{nothings, among, among-numbers}
 use Rattle.promises.proofs.NecHeard.{nec-heard}
@@ -49,68 +52,65 @@ quiet-end later number (suc n) = quiet-end later (number + 1) n
 
 -- one command among reports of nothing is what is kept
 only-noted
-    : (count settles : ℕ) (command : Command) → 2 ≤ settles
-    → notedAll noneYet 2 (among (settles - 2) command (count - settles))
-    ≡ record { edge = settles; report = report.Command command; others = 0 }
+    : (count reporting : ℕ) (command : Command) → 2 ≤ reporting
+    → notedAll noneYet 2 (among (reporting - 2) command (count - reporting))
+    ≡ record { edge = reporting; report = report.Command command; others = 0 }
 unfolding notedAll
-only-noted count settles command h =
-    let same : 2 + (settles - 2) ≡ settles = omega arith in
-    quiet-noted noneYet 2 (settles - 2) (report.Command command ∷ nothings (count - settles))
-    ∙ quiet-end (record { edge = 2 + (settles - 2); report = report.Command command; others = 0 }) (2 + (settles - 2) + 1) (count - settles)
+only-noted count reporting command h =
+    let same : 2 + (reporting - 2) ≡ reporting = omega arith in
+    quiet-noted noneYet 2 (reporting - 2) (report.Command command ∷ nothings (count - reporting))
+    ∙ quiet-end (record { edge = 2 + (reporting - 2); report = report.Command command; others = 0 }) (2 + (reporting - 2) + 1) (count - reporting)
     ∙ rw same
 
-only-answered
-    : (mayReport : Numbers → Type 0) (count settles : ℕ) (first : Numbers) (command : Command) (decoder : Decoder) (reports : List Report)
-    → 2 ≤ settles → mayReport first → map reportNumbers reports ≡ onlyAt count settles first command
-    → Answered mayReport command settles (summaryOf reports decoder)
+only-heard
+    : (mayReport : Numbers → Type 0) (count reporting : ℕ) (first : Numbers) (command : Command) (decoder : Decoder) (reports : List Report)
+    → 2 ≤ reporting → mayReport first → map reportNumbers reports ≡ onlyAt count reporting first command
+    → OnlyHeard mayReport command reporting (summaryOf reports decoder)
 unfolding summaryOf
-only-answered mayReport count settles first command decoder [] h may e = let z : _≡_ {A = ℕ} 0 1 = cc in absurd (omega arith)
-only-answered mayReport count settles first command decoder (r ∷ reports) h may e =
-    let told : reportNumbers r ≡ first = cc in
-    let numbers : map reportNumbers reports ≡ quiet (settles - 2) ++ (reportNumbers (report.Command command) ∷ quiet (count - settles)) = cc in
-    let rest = all-apart reports (among (settles - 2) command (count - settles)) (numbers ∙ sym (among-numbers (settles - 2) command (count - settles))) in
-    rw (rest, only-noted count settles command h) (record { first = rw told may; edge = refl; report = refl; others = refl })
+only-heard mayReport count reporting first command decoder [] h may e = let z : _≡_ {A = ℕ} 0 1 = cc in absurd (omega arith)
+only-heard mayReport count reporting first command decoder (r ∷ reports) h may e =
+    let same : reportNumbers r ≡ first = cc in
+    let numbers : map reportNumbers reports ≡ quiet (reporting - 2) ++ (reportNumbers (report.Command command) ∷ quiet (count - reporting)) = cc in
+    let rest = all-apart reports (among (reporting - 2) command (count - reporting)) (numbers ∙ sym (among-numbers (reporting - 2) command (count - reporting))) in
+    rw (rest, only-noted count reporting command h) (record { first = rw same may; edge = refl; report = refl; others = refl })
 
 -- the edge that settles the last bit is not the first
 under : {n : ℕ} → 14 ≤ n → 2 ≤ n
 under h = omega arith
 
-settled : {n : ℕ} (bit : Bool) → 26 ≤ n → 2 ≤ n - cond bit 0 1
-settled true h = omega arith
-settled false h = omega arith
+before-last : {n : ℕ} (bit : Bool) → 26 ≤ n → 2 ≤ n - cond bit 0 1
+before-last true h = omega arith
+before-last false h = omega arith
 
--- a decoder by number that stands for a protocol's own
-module _
-    (R : Receiver) (of : R .Decoder → Decoder)
-    (reports : (d : R .Decoder) (edges : List Edge) → reportsOf (of d) edges ≡ runReports (R .report) (R .after) d edges)
-    (after : (d : R .Decoder) (edges : List Edge) → decoderAfter (of d) edges ≡ of (runAfter (R .after) d edges)) where
-  heard-answered
-      : (mayReport : Numbers → Type 0) (bound wrong : ℕ) (frame : List ℕ) (command : Command) (settles : ℕ)
-      → Heard R mayReport bound wrong frame command settles → 2 ≤ settles
-      → (earlier : List Edge) (silence : ℕ) (wrongs : List ℕ) → bound < silence → Near wrong (drop 1 frame) (wronged (drop 1 frame) wrongs)
-      → Answered mayReport command settles (heardOf (decoderAfter (of (R .fresh)) earlier) silence frame wrongs)
+-- a decoder by number answers as the machine that stands inside it
+module _ {A : Machine} {of : A .Memory → Memory} (inside : Inside A machine of) (spans : Spans) where
+  sent-heard
+      : (mayReport : Numbers → Type 0) (bound deviation : ℕ) (frame : List ℕ) (command : Command) (reporting : ℕ)
+      → Heard A spans mayReport bound deviation frame command reporting → 2 ≤ reporting
+      → (earlier : List Edge) (silence : ℕ) (deviations : List ℕ) → bound < silence → Near deviation (drop 1 frame) (deviated (drop 1 frame) deviations)
+      → OnlyHeard mayReport command reporting (heardOf (decoderAfter (decoderOf spans (of (A .fresh))) earlier) silence frame deviations)
   unfolding Heard
-  heard-answered mayReport bound wrong frame command settles heard h earlier silence wrongs long near =
-      let (first, may, all) = heard earlier silence (wronged (drop 1 frame) wrongs) long near in
-      rw (after (R .fresh) earlier)
-      (only-answered mayReport (length frame) settles first command _ _ h may
-      (ap (map reportNumbers) (reports (runAfter (R .after) (R .fresh) earlier) (alternating true (silence ∷ wronged (drop 1 frame) wrongs))) ∙ all))
+  sent-heard mayReport bound deviation frame command reporting heard h earlier silence deviations long near =
+      let (first, may, all) = heard earlier silence (deviated (drop 1 frame) deviations) long near in
+      rw (after-own inside spans (A .fresh) earlier)
+      (only-heard mayReport (length frame) reporting first command _ _ h may
+      (ap (map reportNumbers) (reports-own inside spans (runAfter A spans (A .fresh) earlier) (edgesSent silence frame deviations)) ∙ all))
 
 pub nec-sent : EveryNecSent
 unfolding SentHeard sentOf
-nec-sent addr cmd a c start toggle =
-    heard-answered necReceiver of-nec nec-reports nec-after _ _ _ _ _ _ (nec-heard addr cmd a c) (omega arith)
+nec-sent addr cmd a c =
+    sent-heard nec-own _ _ _ _ _ _ _ (nec-heard addr cmd a c) (omega arith)
 
 pub rc5-sent : EveryRc5Sent
 unfolding SentHeard sentOf
 rc5-sent addr cmd start toggle a c low high =
-    heard-answered rc5Receiver of-rc5 rc5-reports rc5-after _ _ _ _ _ _ (rc5-heard addr cmd start toggle a c low high) (under (rc5.at-least _ _))
+    sent-heard rc5-own _ _ _ _ _ _ _ (rc5-heard addr cmd start toggle a c low high) (under (rc5.at-least _ _))
 
 pub rc6-sent : EveryRc6Sent
 unfolding SentHeard sentOf
-rc6-sent addr cmd toggle a c start =
-    heard-answered rc6Receiver of-rc6 rc6-reports rc6-after _ _ _ _ _ _ (rc6-heard addr cmd toggle a c)
-    (settled (bitSet cmd 0) (rc6.at-least _ (rc6-fits (record { addr = addr; cmd = cmd; toggle = toggle }) a c) toggle _))
+rc6-sent addr cmd toggle a c =
+    sent-heard rc6-own _ _ _ _ _ _ _ (rc6-heard addr cmd toggle a c)
+    (before-last (bitSet cmd 0) (rc6.at-least _ toggle _))
 
 -- ---- the decoder that is answered has had earlier edges too, so the same is promised of the next frame that it is sent
 
@@ -120,9 +120,9 @@ summary-decoder [] decoder = refl
 summary-decoder (first ∷ reports) decoder = refl
 
 pub goes-on
-    : (fresh : Decoder) (earlier : List Edge) (protocol addr cmd start : ℕ) (toggle : Bool) (silence : ℕ) (wrongs : List ℕ) → encodeTaken protocol ≡ true
-    → sentOf (decoderAfter fresh earlier) protocol addr cmd start toggle silence wrongs .decoder
-    ≡ decoderAfter fresh (earlier ++ edgesSent silence (frameBy protocol 1000000 addr cmd start toggle) wrongs)
+    : (fresh : Decoder) (earlier : List Edge) (command : Command) (silence : ℕ) (deviations : List ℕ) → encodeTaken (protocolOf command) ≡ true
+    → sentOf (decoderAfter fresh earlier) command silence deviations .decoder
+    ≡ decoderAfter fresh (earlier ++ edgesSent silence (frameOf command 1000000) deviations)
 unfolding sentOf
-goes-on fresh earlier protocol addr cmd start toggle silence wrongs taken =
-    rw taken (summary-decoder _ _ ∙ sym (after-joined edgeAfter fresh earlier _))
+goes-on fresh earlier command silence deviations taken =
+    rw taken (summary-decoder _ _ ∙ ap (decoderOf (fresh .spans)) (sym (after-joined machine (fresh .spans) (fresh .memory) earlier _)))

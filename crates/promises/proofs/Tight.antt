@@ -13,23 +13,23 @@ use Rattle.promises.specs.Heard.{Near, none, more}
 use Rattle.spans.proofs.Places.{both}
 
 abbrev pub isNear : ℕ → List ℕ → List ℕ → Bool
-isNear wrong [] [] = true
-isNear wrong [] (came ∷ restCame) = false
-isNear wrong (sent ∷ restSent) [] = false
-isNear wrong (sent ∷ restSent) (came ∷ restCame) = leb sent (came + wrong) && (leb came (sent + wrong) && isNear wrong restSent restCame)
+isNear deviation [] [] = true
+isNear deviation [] (came ∷ restCame) = false
+isNear deviation (sent ∷ restSent) [] = false
+isNear deviation (sent ∷ restSent) (came ∷ restCame) = leb sent (came + deviation) && (leb came (sent + deviation) && isNear deviation restSent restCame)
 
-pub is-near : (wrong : ℕ) (sent came : List ℕ) → T (isNear wrong sent came) → Near wrong sent came
-is-near wrong [] [] t = none
-is-near wrong [] (came ∷ restCame) t = absurd t
-is-near wrong (sent ∷ restSent) [] t = absurd t
-is-near wrong (sent ∷ restSent) (came ∷ restCame) t =
-    let (low, others) = both (leb sent (came + wrong)) (leb came (sent + wrong) && isNear wrong restSent restCame) t in
-    let (high, rest) = both (leb came (sent + wrong)) (isNear wrong restSent restCame) others in
-    more (leb→le sent (came + wrong) low) (leb→le came (sent + wrong) high) (is-near wrong restSent restCame rest)
+pub is-near : (deviation : ℕ) (sent came : List ℕ) → T (isNear deviation sent came) → Near deviation sent came
+is-near deviation [] [] t = none
+is-near deviation [] (came ∷ restCame) t = absurd t
+is-near deviation (sent ∷ restSent) [] t = absurd t
+is-near deviation (sent ∷ restSent) (came ∷ restCame) t =
+    let (low, others) = both (leb sent (came + deviation)) (leb came (sent + deviation) && isNear deviation restSent restCame) t in
+    let (high, rest) = both (leb came (sent + deviation)) (isNear deviation restSent restCame) others in
+    more (leb→le sent (came + deviation) low) (leb→le came (sent + deviation) high) (is-near deviation restSent restCame rest)
 
 -- nothing is reported at a place
 abbrev pub nothingAt : ℕ → List Numbers → Bool
-nothingAt place told = eqb (getD told place (reportNumbers Nothing) .kind) 0
+nothingAt place reports = eqb (getD reports place (reportNumbers Nothing) .kind) 0
 
 pub differ : {one two : List Numbers} (place : ℕ) → nothingAt place one ≡ false → nothingAt place two ≡ true → one ≡ two → ⊥
 differ place here there same =

@@ -5,17 +5,19 @@ use mathlib.Core.Path.{_≡_}
 use mathlib.Core.Bool.{Bool, true, false, not, cond}
 use mathlib.Core.List.{List, [], _∷_, _++_, foldl}
 use lib.Dec.{eqb}
+use Rattle.spans.specs.declared.Spans.{Spans}
 use Rattle.commands.specs.declared.Command.{Command}
 use Rattle.commands.specs.declared.Command.the-variants as command
 use Rattle.commands.specs.declared.nec.NecCommand.{NecCommand}
-use Rattle.reports.specs.Run.{Edge}
+use Rattle.reports.specs.Edges.{Edge}
+use Rattle.reports.specs.Machine.{runReports}
 use Rattle.reports.specs.declared.Fault.the-variants.{Data}
 use Rattle.reports.specs.declared.Report.{Report}
 use Rattle.reports.specs.declared.Report.the-variants as report
 use Rattle.nec.specs.Decoder as nec
-use Rattle.nec.specs.declared.decoder.NecDecoder.{NecDecoder}
+use Rattle.nec.specs.declared.decoder.NecMemory.{NecMemory}
 use Rattle.nec.specs.declared.decoder.NecState.the-variants.{Init, Receiving}
-use Rattle.promises.specs.Repeat.{reads, noneOpens, freshAt, heardAt, Reported, Failed}
+use Rattle.promises.specs.Repeat.{reads, noneOpens, necSpans, fresh, heardAt, Reported, Failed}
 
 -- ---- What the firmware holds
 
@@ -45,12 +47,16 @@ heldAfter reports = foldl heldAt none reports
 
 -- ---- What it can rely on
 
+-- all that a fresh receiver reports of these edges
+abbrev pub reportsAt : ℕ → List Edge → List Report
+reportsAt rate edges = runReports nec.machine (necSpans rate) fresh edges
+
 -- a repeat that is reported while a command is held is that command, whatever repeats came between
 abbrev pub RepeatIsHeld : Type 0
 RepeatIsHeld =
     (rate : ℕ) (edges : List Edge) (last : Edge) (addr cmd : ℕ) (c : NecCommand)
-    → heldAfter (nec.reportsOf (freshAt rate) edges) ≡ holds addr cmd
-    → Reported (heardAt rate edges) last c → c .repeat ≡ true
+    → heldAfter (reportsAt rate edges) ≡ holds addr cmd
+    → Reported (necSpans rate) (heardAt rate edges) last c → c .repeat ≡ true
     → c ≡ record { addr = addr; cmd = cmd; repeat = true }
 
 -- it acts on each whole command, and on a repeat while it holds a command; the other repeats are dropped
@@ -71,21 +77,22 @@ lastWhole reports = foldl wholeAt none reports
 -- whatever it acts on has the address and command of the last whole command that was reported: itself, or the one that it repeats
 abbrev pub ActsOnWhole : Type 0
 ActsOnWhole =
-    (rate : ℕ) (edges : List Edge) (last : Edge) (c : NecCommand) → Reported (heardAt rate edges) last c
-    → acts (heldAfter (nec.reportsOf (freshAt rate) edges)) (c .repeat) ≡ true
-    → lastWhole (nec.reportsOf (freshAt rate) (edges ++ (last ∷ []))) ≡ holds (c .addr) (c .cmd)
+    (rate : ℕ) (edges : List Edge) (last : Edge) (c : NecCommand) → Reported (necSpans rate) (heardAt rate edges) last c
+    → acts (heldAfter (reportsAt rate edges)) (c .repeat) ≡ true
+    → lastWhole (reportsAt rate (edges ++ (last ∷ []))) ≡ holds (c .addr) (c .cmd)
 
 -- ---- A sync that is lost
 
--- while no frame is open and none is opened, no error is reported: whatever is held stays so. Of any decoder
+-- while no frame is open and none is opened, no error is reported: whatever is held stays so. Of any spans and memory
 abbrev pub LostSyncLetsGoOfNothing : Type 0
 LostSyncLetsGoOfNothing =
-    (d : NecDecoder) (edges : List Edge) (held : Held) → d .memory .state ≡ Init → noneOpens d edges ≡ true
-    → foldl heldAt held (nec.reportsOf d edges) ≡ held
+    (spans : Spans) (m : NecMemory) (edges : List Edge) (held : Held) → m .state ≡ Init → noneOpens spans m edges ≡ true
+    → foldl heldAt held (runReports nec.machine spans m edges) ≡ held
 
 -- while an older frame is open, a pulse that is neither zero nor one reports error Data of that frame
 abbrev pub OlderFrameBreaks : Type 0
 OlderFrameBreaks =
-    (rate : ℕ) (earlier : List Edge) (pulse : Edge) (n : ℕ) → heardAt rate earlier .memory .state ≡ Receiving n → pulse .rising ≡ true
-    → eqb (reads (heardAt rate earlier) pulse) nec.zeroBit ≡ false → eqb (reads (heardAt rate earlier) pulse) nec.oneBit ≡ false
-    → Failed (heardAt rate earlier) pulse Data
+    (rate : ℕ) (earlier : List Edge) (pulse : Edge) (n : ℕ) → let spans = necSpans rate in let m = heardAt rate earlier in
+    m .state ≡ Receiving n → pulse .rising ≡ true
+    → eqb (reads spans m pulse) nec.zeroBit ≡ false → eqb (reads spans m pulse) nec.oneBit ≡ false
+    → Failed spans m pulse Data

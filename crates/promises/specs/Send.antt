@@ -5,6 +5,8 @@ use mathlib.Core.Bool.{Bool, true, false, cond}
 use mathlib.Core.List.{List, [], _∷_}
 use lib.Dec.{eqb, ltb}
 use lib.ListN.{length, drop, getD, replicate}
+use Rattle.refusals.specs.Refusals.{badProtocol, encodeTaken}
+use Rattle.commands.specs.Command.{protocolOf}
 use Rattle.commands.specs.declared.Command.{Command}
 use Rattle.commands.specs.declared.Command.the-variants as command
 use Rattle.commands.specs.declared.nec.NecCommand.{NecCommand}
@@ -13,48 +15,46 @@ use Rattle.commands.specs.declared.rc6.Rc6Command.{Rc6Command}
 use Rattle.frames.specs.Frames.{bitSet}
 use Rattle.frames.specs.Filled.{filled}
 use Rattle.reports.specs.Reports.{Numbers, reportNumbers}
-use Rattle.reports.specs.Run.{Edge, alternating}
+use Rattle.reports.specs.Edges.{Edge, alternating}
 use Rattle.reports.specs.declared.Report.{Report}
 use Rattle.reports.specs.declared.Report.the-variants as report
-use Rattle.rc5_encoder.specs.Encoder.{rc5Frame}
-use Rattle.rc6_encoder.specs.Encoder.{rc6Frame}
-use Rattle.receiver.specs.Decoder.{newAt, reportsOf, decoderAfter}
-use Rattle.receiver.specs.Encoder.{encodeTaken, frameBy}
-use Rattle.receiver.specs.declared.decoder.Decoder.{Decoder}
-use Rattle.promises.specs.Heard.{Near, Nothing, NothingOrData}
+use Rattle.protocols.specs.Decoder.{madeBy, reportsOf, decoderAfter}
+use Rattle.protocols.specs.Encoder.{frameOf}
+use Rattle.protocols.specs.declared.decoder.Decoder.{Decoder}
+use Rattle.promises.specs.Heard.{Near, OnlyNothing, NothingOrData}
 use Rattle.promises.specs.declared.send.Later.{Later}
 use Rattle.promises.specs.declared.send.Sent.{Sent}
 
--- a duration as it comes, by the wrongs from it on: the first is added on 32 bits, so that 2^32 - n is a wrong of n below; with none it comes as it was sent
+-- a duration as it comes, by the deviations from it on: the first is added on 32 bits, so that 2^32 - n is a deviation of n below; with none it comes as it was sent
 abbrev pub cameAs : ℕ → List ℕ → ℕ
 cameAs duration [] = duration
-cameAs duration (wrong ∷ wrongs) = (duration + wrong) % 2 ^ 32
+cameAs duration (deviation ∷ deviations) = (duration + deviation) % 2 ^ 32
 
--- durations as they come, each by its own wrong
-unfoldable pub wronged : List ℕ → List ℕ → List ℕ
-wronged [] wrongs = []
-wronged (duration ∷ durations) wrongs = cameAs duration wrongs ∷ wronged durations (drop 1 wrongs)
+-- durations as they come, each by its own deviation
+unfoldable pub deviated : List ℕ → List ℕ → List ℕ
+deviated [] deviations = []
+deviated (duration ∷ durations) deviations = cameAs duration deviations ∷ deviated durations (drop 1 deviations)
 
--- a frame's edges: "a rising edge after a silence ..; then the rest of an encoded frame in alternating edges", each with its wrong
+-- a frame's edges: "a rising edge after a silence ..; then the rest of an encoded frame in alternating edges", each with its deviation
 abbrev pub edgesSent : ℕ → List ℕ → List ℕ → List Edge
-edgesSent silence frame wrongs = alternating true (silence ∷ wronged (drop 1 frame) wrongs)
+edgesSent silence frame deviations = alternating true (silence ∷ deviated (drop 1 frame) deviations)
 
--- no edge behind the first has reported anything
+-- no edge after the first has reported anything
 abbrev pub noneYet : Later
 noneYet = record { edge = 0; report = report.Nothing; others = 0 }
 
--- the edge `number` reports something: the first such edge is kept with its report, those behind it are counted
-abbrev pub told : Later → ℕ → Report → Later
-told later number something =
+-- the edge `number` reports something: the first such edge is kept with its report, those after it are counted
+abbrev pub noteSome : Later → ℕ → Report → Later
+noteSome later number something =
     cond (eqb (later .edge) 0) (record { edge = number; report = something; others = 0 })
     (record { edge = later .edge; report = later .report; others = later .others + 1 })
 
 -- the edge `number` reports something, or nothing
 abbrev pub noted : Later → ℕ → Report → Later
 noted later number report.Nothing = later
-noted later number (report.Command command) = told later number (report.Command command)
-noted later number (report.Error fault) = told later number (report.Error fault)
-noted later number (report.Refused refusal) = told later number (report.Refused refusal)
+noted later number (report.Command command) = noteSome later number (report.Command command)
+noted later number (report.Error fault) = noteSome later number (report.Error fault)
+noted later number (report.Refused refusal) = noteSome later number (report.Refused refusal)
 
 -- all reports from the edge `number` on
 unfoldable pub notedAll : Later → ℕ → List Report → Later
@@ -72,32 +72,32 @@ summaryOf (first ∷ reports) decoder = answerOf first (notedAll noneYet 2 repor
 
 -- a frame is sent to a decoder: the summary of all its reports, and the decoder after them
 abbrev pub heardOf : Decoder → ℕ → List ℕ → List ℕ → Sent
-heardOf decoder silence frame wrongs =
-    let edges = edgesSent silence frame wrongs in
+heardOf decoder silence frame deviations =
+    let edges = edgesSent silence frame deviations in
     summaryOf (reportsOf decoder edges) (decoderAfter decoder edges)
 
--- refusal 2: "protocol is not .. (encode: not 1, 2, 3)"; no edge came
+-- no edge came
 abbrev pub sentRefused : ℕ → Decoder → Sent
 sentRefused number decoder = answerOf (report.Refused number) noneYet decoder
 
--- "at 1 MHz", by protocol number
-unfoldable pub sentOf : Decoder → ℕ → ℕ → ℕ → ℕ → Bool → ℕ → List ℕ → Sent
-sentOf decoder protocol addr cmd start toggle silence wrongs =
-    cond (encodeTaken protocol) (heardOf decoder silence (frameBy protocol 1000000 addr cmd start toggle) wrongs) (sentRefused 2 decoder)
+-- "at 1 MHz"; refusal 2: "protocol is not .. (encode: not 1, 2, 3)"
+unfoldable pub sentOf : Decoder → Command → ℕ → List ℕ → Sent
+sentOf decoder command silence deviations =
+    cond (encodeTaken (protocolOf command)) (heardOf decoder silence (frameOf command 1000000) deviations) (sentRefused badProtocol decoder)
 
--- wrongs of one size for the 66 durations behind a silence: two durations come too long, two too short, and so on
-abbrev pub wrongAt : ℕ → ℕ → ℕ
-wrongAt wrong place = cond (ltb (place % 4) 2) wrong ((2 ^ 32 - wrong) % 2 ^ 32)
+-- deviations of one size for the 66 durations after a silence: two durations come too long, two too short, and so on
+abbrev pub deviationAt : ℕ → ℕ → ℕ
+deviationAt size place = cond (ltb (place % 4) 2) size ((2 ^ 32 - size) % 2 ^ 32)
 
-abbrev pub wrongsOf : ℕ → List ℕ
-wrongsOf wrong = filled (wrongAt wrong) 0 (replicate 66 0)
+abbrev pub deviationsOf : ℕ → List ℕ
+deviationsOf size = filled (deviationAt size) 0 (replicate 66 0)
 
 -- ---- "A frame that is sent is heard", of the call
 
--- what is answered where the command is heard: the first edge reports what `mayReport` allows, the edge `settles` the command, and no other edge anything
-pub record Answered (mayReport : Numbers → Type 0) (command : Command) (settles : ℕ) (answer : Sent) : Type 0 where
+-- the command is heard and nothing else: the first edge reports what `mayReport` allows, the edge `reporting` the command, and no other edge anything
+pub record OnlyHeard (mayReport : Numbers → Type 0) (command : Command) (reporting : ℕ) (answer : Sent) : Type 0 where
   pub first : mayReport (reportNumbers (answer .first))
-  pub edge : answer .edge ≡ settles
+  pub edge : answer .edge ≡ reporting
   pub report : reportNumbers (answer .report) ≡ reportNumbers (report.Command command)
   pub others : answer .others ≡ 0
 
@@ -105,39 +105,34 @@ pub record Answered (mayReport : Numbers → Type 0) (command : Command) (settle
 abbrev pub leastSilence : ℕ → ℕ
 leastSilence protocol = getD (0 ∷ 14446 ∷ 1956 ∷ 2984 ∷ []) protocol 0
 
-abbrev pub mostWrong : ℕ → ℕ
-mostWrong protocol = getD (0 ∷ 28 ∷ 106 ∷ 53 ∷ []) protocol 0
+abbrev pub mostDeviation : ℕ → ℕ
+mostDeviation protocol = getD (0 ∷ 28 ∷ 106 ∷ 53 ∷ []) protocol 0
 
--- the decoder was fresh and then had any earlier edges; silence and wrongs are within their bounds
-unfoldable pub SentHeard : (protocol addr cmd start : ℕ) → (toggle : Bool) → (Numbers → Type 0) → Command → (settles : ℕ) → Type 0
-SentHeard protocol addr cmd start toggle mayReport command settles =
-    let frame = drop 1 (frameBy protocol 1000000 addr cmd start toggle) in
-    (earlier : List Edge) (silence : ℕ) (wrongs : List ℕ) → leastSilence protocol ≤ silence → Near (mostWrong protocol) frame (wronged frame wrongs)
-    → Answered mayReport command settles
-    (sentOf (decoderAfter (newAt protocol 1000000 .decoder) earlier) protocol addr cmd start toggle silence wrongs)
+-- the decoder was fresh and then had any earlier edges; silence and deviations are within their bounds
+unfoldable pub SentHeard : Command → (Numbers → Type 0) → (reporting : ℕ) → Type 0
+SentHeard command mayReport reporting =
+    let protocol = protocolOf command in
+    let frame = drop 1 (frameOf command 1000000) in
+    (earlier : List Edge) (silence : ℕ) (deviations : List ℕ) → leastSilence protocol ≤ silence
+    → Near (mostDeviation protocol) frame (deviated frame deviations)
+    → OnlyHeard mayReport command reporting (sentOf (decoderAfter (madeBy protocol 1000000 .decoder) earlier) command silence deviations)
 
--- NEC sends neither a start nor a toggle
 abbrev pub NecSent : NecCommand → Type 0
-NecSent sent = (start : ℕ) (toggle : Bool) → SentHeard 1 (sent .addr) (sent .cmd) start toggle NothingOrData (command.Nec sent) 67
+NecSent sent = SentHeard (command.Nec sent) NothingOrData 67
 
 abbrev pub EveryNecSent : Type 0
 EveryNecSent = (addr cmd : ℕ) → addr < 256 → cmd < 256 → NecSent (record { addr = addr; cmd = cmd; repeat = false })
 
 abbrev pub Rc5Sent : Rc5Command → Type 0
-Rc5Sent sent =
-    SentHeard 2 (sent .addr) (sent .cmd) (sent .start) (sent .toggle) Nothing (command.Rc5 sent) (length (rc5Frame sent 1000000))
+Rc5Sent sent = SentHeard (command.Rc5 sent) OnlyNothing (length (frameOf (command.Rc5 sent) 1000000))
 
 abbrev pub EveryRc5Sent : Type 0
 EveryRc5Sent =
     (addr cmd start : ℕ) (toggle : Bool) → addr < 32 → cmd < 64 → 2 ≤ start → start ≤ 3
     → Rc5Sent (record { addr = addr; cmd = cmd; start = start; toggle = toggle })
 
--- RC6 sends no start
 abbrev pub Rc6Sent : Rc6Command → Type 0
-Rc6Sent sent =
-    (start : ℕ)
-    → SentHeard 3 (sent .addr) (sent .cmd) start (sent .toggle) Nothing (command.Rc6 sent)
-    (length (rc6Frame sent 1000000) - cond (bitSet (sent .cmd) 0) 0 1)
+Rc6Sent sent = SentHeard (command.Rc6 sent) OnlyNothing (length (frameOf (command.Rc6 sent) 1000000) - cond (bitSet (sent .cmd) 0) 0 1)
 
 abbrev pub EveryRc6Sent : Type 0
 EveryRc6Sent = (addr cmd : ℕ) (toggle : Bool) → addr < 256 → cmd < 256 → Rc6Sent (record { addr = addr; cmd = cmd; toggle = toggle })

@@ -5,19 +5,18 @@ use mathlib.Core.Path.{_≡_}
 use mathlib.Core.Bool.{Bool, false}
 use mathlib.Core.List.{List, [], _∷_, _++_}
 use lib.ListN.{length, replicate}
-use Rattle.spans.specs.Spans.{spansOf}
 use Rattle.spans.specs.Lookup.{none, lookupOf, placeOf}
 use Rattle.commands.specs.Nec.{packOf}
 use Rattle.commands.specs.declared.rc5.Rc5Command.{Rc5Command}
 use Rattle.frames.specs.Frames.{encodedOf, leftOf, encodedNumber, encodedLength}
 use Rattle.nec.specs.Decoder.{zeroBit}
 use Rattle.rc5_encoder.specs.Encoder.{rc5Frame}
-use Rattle.promises.specs.Heard.{quiet}
-use Rattle.promises.specs.Totals.{errorData, Tells, held}
+use Rattle.promises.specs.Heard.{quiet, spansAt1MHz}
+use Rattle.promises.specs.Totals.{errorData, PairsReport, held}
 
 -- the place that a duration or a pair total reads at 1 MHz
 abbrev pub reads : ℕ → ℕ → ℕ
-reads protocol duration = placeOf (lookupOf (spansOf protocol 1000000 .spans) duration)
+reads protocol duration = placeOf (lookupOf (spansAt1MHz protocol) duration)
 
 abbrev pub nec : ℕ
 nec = 1
@@ -69,4 +68,4 @@ pub record Starred : Type 0 where
   pub rc5-room-25-untouched : (lent : List ℕ) → length lent ≡ 25 → leftOf 1000000 lent starredFrame ≡ lent
   -- "pair totals 13500, eight of 2250, 5000, 11250. Error Data at 5000; at 11250 address 255, command 0, repeat"
   pub nec-broken-then-repeat
-      : Tells (13500 ∷ (replicate 8 2250 ++ (5000 ∷ 11250 ∷ []))) (quiet 9 ++ (errorData ∷ held 255 0 ∷ []))
+      : PairsReport (13500 ∷ (replicate 8 2250 ++ (5000 ∷ 11250 ∷ []))) (quiet 9 ++ (errorData ∷ held 255 0 ∷ []))

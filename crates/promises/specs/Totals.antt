@@ -7,11 +7,13 @@ use lib.ListN.{take, drop}
 use Rattle.commands.specs.declared.Command.the-variants as command
 use Rattle.commands.specs.declared.nec.NecCommand.{NecCommand}
 use Rattle.reports.specs.Reports.{Numbers, reportNumbers}
-use Rattle.reports.specs.Run.{Pair, totals, edgesOf}
+use Rattle.reports.specs.Edges.{Pair, totals, edgesOf}
+use Rattle.reports.specs.Machine.{runReports}
 use Rattle.reports.specs.declared.Fault.the-variants.{Data}
 use Rattle.reports.specs.declared.Report.the-variants as report
 use Rattle.nec.specs.Decoder as nec
 use Rattle.nec_encoder.specs.Encoder.{necFrame}
+use Rattle.promises.specs.Heard.{spansAt1MHz}
 
 -- what is reported, in numbers
 abbrev pub nothing : Numbers
@@ -23,12 +25,13 @@ errorData = reportNumbers (report.Error Data)
 -- a report for each pair, at its rising edge; the falling edge before it reports nothing
 unfoldable pub atPairs : List Numbers → List Numbers
 atPairs [] = []
-atPairs (told ∷ rest) = nothing ∷ told ∷ atPairs rest
+atPairs (report ∷ reports) = nothing ∷ report ∷ atPairs reports
 
-unfoldable pub Tells : List ℕ → List Numbers → Type 0
-Tells pulses told =
+-- whatever pairs have these totals, this is reported at each
+unfoldable pub PairsReport : List ℕ → List Numbers → Type 0
+PairsReport pulses reports =
     (pairs : List Pair) → totals pairs ≡ pulses
-    → map reportNumbers (nec.reportsOf (nec.newAt 1000000 .decoder) (edgesOf pairs)) ≡ atPairs told
+    → map reportNumbers (runReports nec.machine (spansAt1MHz 1) (nec.machine .fresh) (edgesOf pairs)) ≡ atPairs reports
 
 abbrev pub key : ℕ → ℕ → NecCommand
 key addr cmd = record { addr = addr; cmd = cmd; repeat = false }

@@ -1,16 +1,17 @@
-// Demand 3 as a call: the frame of a command is sent at 1 MHz to a decoder, behind a silence and with a wrong at each duration; what was reported comes back.
+// Demand 3 as a call: the frame of a command is sent at 1 MHz to a decoder, after a silence and with a deviation at each duration; what was reported comes back.
+use commands::Command;
 use frames::Encoded;
-use receiver::decoder::Decoder;
+use protocols::decoder::Decoder;
 use reports::Report;
 ghost use mathlib.Core.Path.{_≡_};
 ghost use Prim.Native.Nat.{_<_, _≤_};
 ghost use lib.ListN.{length, drop};
 ghost use Rattle.frames.specs.Filled.{filled};
-ghost use Rattle.reports.specs.Run.{alternating};
-ghost use Rattle.receiver.specs.Decoder.{decoderAfter};
-ghost use Rattle.promises.specs.Send.{cameAs, told, noted, heardOf, sentRefused, sentOf, wrongAt, wrongsOf, leastSilence, mostWrong};
+ghost use Rattle.reports.specs.Edges.{alternating};
+ghost use Rattle.protocols.specs.Decoder.{decoderAfter};
+ghost use Rattle.promises.specs.Send.{cameAs, noteSome, noted, heardOf, sentRefused, sentOf, deviationAt, deviationsOf, leastSilence, mostDeviation};
 
-// What the edges behind the first one reported so far: the number of the first of them that reported anything (0: none did), its report, and how many others
+// What the edges after the first one reported so far: the number of the first of them that reported anything (0: none did), its report, and how many others
 // did.
 struct Later {
     edge: u32,
@@ -28,10 +29,10 @@ pub struct Sent {
     pub decoder: Decoder,
 }
 
-// An edge reports something: the first such edge is kept, those behind it are counted.
-fn tell(later: Later, number: u32, report: Report) -> Later
+// An edge reports something: the first such edge is kept, those after it are counted.
+fn note_some(later: Later, number: u32, report: Report) -> Later
     requires { ⌜ later .others < 4294967295 ⌝ }
-    ensures { λ r. ⌜ r ≡ told later number report ⌝ }
+    ensures { λ r. ⌜ r ≡ noteSome later number report ⌝ }
 {
     if later.edge == 0 {
         return Later {
@@ -52,26 +53,26 @@ fn note(later: Later, number: u32, report: Report) -> Later
 {
     match report {
         Report::Nothing => later,
-        Report::Command(c) => tell(later, number, Report::Command(c)),
-        Report::Error(f) => tell(later, number, Report::Error(f)),
-        Report::Refused(n) => tell(later, number, Report::Refused(n)),
+        Report::Command(c) => note_some(later, number, Report::Command(c)),
+        Report::Error(f) => note_some(later, number, Report::Error(f)),
+        Report::Refused(n) => note_some(later, number, Report::Refused(n)),
     }
 }
 
-// A duration as it comes, with the wrong at a place; as it was sent where there is none.
-fn with_wrong(duration: u32, wrongs: &[u32], at: usize) -> u32
-    ensures { λ r. ⌜ r ≡ cameAs duration (drop at (now (wrongs .entry))) ⌝ }
+// A duration as it comes, with the deviation at a place; as it was sent where there is none.
+fn came_as(duration: u32, deviations: &[u32], at: usize) -> u32
+    ensures { λ r. ⌜ r ≡ cameAs duration (drop at (now (deviations .entry))) ⌝ }
 {
-    if at < wrongs.len() {
-        return std::num::wrapping_add_u32(duration, wrongs[at]);
+    if at < deviations.len() {
+        return std::num::wrapping_add_u32(duration, deviations[at]);
     }
     duration
 }
 
-// All edges of a frame: the first after the silence, the others after the frame's durations, each with its wrong.
-fn feed(decoder: Decoder, silence: u32, frame: &[u32], wrongs: &[u32]) -> Sent
+// All edges of a frame: the first after the silence, the others after the frame's durations, each with its deviation.
+fn feed(decoder: Decoder, silence: u32, frame: &[u32], deviations: &[u32]) -> Sent
     requires { ⌜ length (now frame) ≤ 67 ⌝ }
-    ensures { λ r. ⌜ r ≡ heardOf decoder silence (now (frame .entry)) (now (wrongs .entry)) ⌝ }
+    ensures { λ r. ⌜ r ≡ heardOf decoder silence (now (frame .entry)) (now (deviations .entry)) ⌝ }
 {
     let begun = decoder.event_total(true, silence);
     let first = begun.report;
@@ -84,7 +85,7 @@ fn feed(decoder: Decoder, silence: u32, frame: &[u32], wrongs: &[u32]) -> Sent
     let mut rising = false;
     let mut at: usize = 1;
     while at < frame.len() {
-        let total = after.event_total(rising, with_wrong(frame[at], wrongs, at - 1));
+        let total = after.event_total(rising, came_as(frame[at], deviations, at - 1));
         let report = total.report;
         later = note(later, at as u32 + 1, report);
         after = total.decoder;
@@ -114,35 +115,18 @@ fn refused(decoder: Decoder, number: u32) -> Sent
     }
 }
 
-// The first wrong is for the duration behind the silence, the next one for the next. Each is added on 32 bits: 2^32 - n is a wrong of n below.
+// The first deviation is for the duration after the silence, the next one for the next. Each is added on 32 bits: 2^32 - n is a deviation of n below.
 // Where there are too few the durations come as they were sent, and too many are not read. Refusal: 2.
-pub fn send(
-    decoder: Decoder,
-    protocol: u32,
-    addr: u8,
-    cmd: u8,
-    start: u8,
-    toggle: bool,
-    silence: u32,
-    wrongs: &[u32],
-) -> Sent
-    ensures { λ r. ⌜ r ≡ sentOf decoder protocol addr cmd start toggle silence (now (wrongs .entry)) ⌝ }
+pub fn send(decoder: Decoder, command: Command, silence: u32, deviations: &[u32]) -> Sent
+    ensures { λ r. ⌜ r ≡ sentOf decoder command silence (now (deviations .entry)) ⌝ }
 {
     let mut frame = [0u32; 67];
-    let encoded = receiver::encoder::encode(
-        protocol,
-        1000000,
-        addr,
-        cmd,
-        start,
-        toggle,
-        &mut frame,
-    );
+    let encoded = protocols::encoder::encode(command, 1000000, &mut frame);
     // 67 places hold every frame
     match encoded {
-        Encoded::Wrote(count) => feed(decoder, silence, &frame[..count], wrongs),
+        Encoded::Wrote(count) => feed(decoder, silence, &frame[..count], deviations),
         Encoded::Refused(number) => refused(decoder, number),
-        Encoded::Short(_) => refused(decoder, 3),
+        Encoded::Short(_) => refused(decoder, refusals::SHORT_BUFFER),
     }
 }
 
@@ -162,57 +146,39 @@ pub fn after(decoder: Decoder, rising: bool, durations: &[u32]) -> Decoder
     heard
 }
 
-// A wrong of one size: two durations come too long by it, two too short, and so on.
-fn wrong_at(wrong: u32, place: usize) -> u32
-    ensures { λ r. ⌜ r ≡ wrongAt wrong place ⌝ }
+// A deviation of one size: two durations come too long by it, two too short, and so on.
+fn deviation_at(size: u32, place: usize) -> u32
+    ensures { λ r. ⌜ r ≡ deviationAt size place ⌝ }
 {
     if place % 4 < 2 {
-        return wrong;
+        return size;
     }
-    std::num::wrapping_sub_u32(0, wrong)
+    std::num::wrapping_sub_u32(0, size)
 }
 
-fn set_wrongs(wrongs: &mut [u32], wrong: u32)
-    ensures { λ _. ⌜ now (wrongs .exit) ≡ filled (wrongAt wrong) 0 (now (wrongs .entry)) ⌝ }
+fn set_deviations(deviations: &mut [u32], size: u32)
+    ensures { λ _. ⌜ now (deviations .exit) ≡ filled (deviationAt size) 0 (now (deviations .entry)) ⌝ }
 {
     let mut i: usize = 0;
-    while i < wrongs.len() {
-        wrongs[i] = wrong_at(wrong, i);
+    while i < deviations.len() {
+        deviations[i] = deviation_at(size, i);
         i += 1;
     }
 }
 
-// The same with wrongs of one size.
-pub fn send_wrong(
-    decoder: Decoder,
-    protocol: u32,
-    addr: u8,
-    cmd: u8,
-    start: u8,
-    toggle: bool,
-    silence: u32,
-    wrong: u32,
-) -> Sent
-    ensures { λ r. ⌜ r ≡ sentOf decoder protocol addr cmd start toggle silence (wrongsOf wrong) ⌝ }
+// The same with deviations of one size.
+pub fn send_deviated(decoder: Decoder, command: Command, silence: u32, size: u32) -> Sent
+    ensures { λ r. ⌜ r ≡ sentOf decoder command silence (deviationsOf size) ⌝ }
 {
-    let mut wrongs = [0u32; 66];
-    set_wrongs(&mut wrongs, wrong);
-    send(
-        decoder,
-        protocol,
-        addr,
-        cmd,
-        start,
-        toggle,
-        silence,
-        &wrongs,
-    )
+    let mut deviations = [0u32; 66];
+    set_deviations(&mut deviations, size);
+    send(decoder, command, silence, &deviations)
 }
 
 // The bounds of demand 3, for NEC, RC5 and RC6; no other protocol is sent.
 const LEAST_SILENCES: [u32; 4] = [0, 14446, 1956, 2984];
 
-const MOST_WRONGS: [u32; 4] = [0, 28, 106, 53];
+const MOST_DEVIATIONS: [u32; 4] = [0, 28, 106, 53];
 
 pub fn least_silence(protocol: u32) -> u32
     ensures { λ r. ⌜ r ≡ leastSilence protocol ⌝ }
@@ -223,11 +189,11 @@ pub fn least_silence(protocol: u32) -> u32
     0
 }
 
-pub fn most_wrong(protocol: u32) -> u32
-    ensures { λ r. ⌜ r ≡ mostWrong protocol ⌝ }
+pub fn most_deviation(protocol: u32) -> u32
+    ensures { λ r. ⌜ r ≡ mostDeviation protocol ⌝ }
 {
     if protocol < 4 {
-        return MOST_WRONGS[protocol as usize];
+        return MOST_DEVIATIONS[protocol as usize];
     }
     0
 }

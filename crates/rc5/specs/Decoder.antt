@@ -1,18 +1,18 @@
 -- Document 01, "Decoder steps", RC5.
 use Prim.Native.Nat.{ℕ, _+_, _-_, _%_, _^_}
 use mathlib.Core.Bool.{Bool, true, false, cond}
-use mathlib.Core.List.{List}
 use lib.Dec.{leb, ltb, eqb}
 use lib.Bits.{bitOr}
-use Rattle.spans.specs.Spans.{spansOf}
-use Rattle.spans.specs.Lookup.{none, lookupIn, placeOf}
+use Rattle.refusals.specs.Refusals as refusal
+use Rattle.spans.specs.Lookup.{none}
+use Rattle.spans.specs.declared.Spans.{Spans}
+use Rattle.spans.specs.declared.SpansAnswer.{SpansAnswer}
 use Rattle.commands.specs.Rc5.{unpackOf}
 use Rattle.commands.specs.declared.Command.the-variants as command
-use Rattle.reports.specs.Rule.{ruleReport, ruleAfter}
-use Rattle.reports.specs.Run.{Edge, runReports, runAfter}
+use Rattle.reports.specs.Edges.{Edge}
+use Rattle.reports.specs.Machine.{Machine, EventAnswer, TotalAnswer, tickStep}
 use Rattle.reports.specs.declared.Status.{Status}
 use Rattle.reports.specs.declared.Status.the-variants as status
-use Rattle.reports.specs.declared.Report.{Report}
 use Rattle.reports.specs.declared.Report.the-variants as report
 use Rattle.rc5.specs.declared.decoder.Rc5State.{Rc5State}
 use Rattle.rc5.specs.declared.decoder.Rc5State.the-variants.{Idle, Data, Done, Error}
@@ -40,20 +40,16 @@ abbrev pub fresh : Rc5Memory
 fresh = memoryOf Idle 0 0
 
 -- reset clears the bits and the clock, as the crate's does
-abbrev pub resetOf : Rc5Memory → Rc5Memory
-resetOf m = fresh
-
--- "ticks are place + 1"
-abbrev pub ticksOf : ℕ → ℕ
-ticksOf place = place + 1
+abbrev pub resetIn : Rc5Memory → Rc5Memory
+resetIn m = fresh
 
 -- the "clock counts ticks on 64 bits and goes round at the end"
 abbrev pub counted : Rc5Memory → ℕ → Rc5Memory
 counted m ticks = memoryOf (m .state) (m .bits) ((m .clock + ticks) % 2 ^ 64)
 
--- "No span resets at once"
+-- "ticks are place + 1. No span resets at once"
 abbrev pub ticked : Rc5Memory → ℕ → Rc5Memory
-ticked m place = cond (eqb place none) (resetOf m) (counted m (ticksOf place))
+ticked m place = cond (eqb place none) (resetIn m) (counted m (place + 1))
 
 -- "From Idle a rising edge zeroes the clock and sets bit 13; a falling edge stays"
 abbrev pub fromIdle : ℕ → ℕ → Bool → Rc5Memory
@@ -64,13 +60,13 @@ abbrev pub afterBit : ℕ → Rc5State
 afterBit n = cond (eqb n 0) Done (Data (n - 1))
 
 -- "1 if rising"
-abbrev pub gathered : ℕ → ℕ → Bool → ℕ
-gathered n bits rising = cond rising (bitOr bits (2 ^ n)) bits
+abbrev pub withBit : ℕ → ℕ → Bool → ℕ
+withBit n bits rising = cond rising (bitOr bits (2 ^ n)) bits
 
 -- "is taken at an even clock"
 abbrev pub fromData : ℕ → ℕ → ℕ → Bool → Rc5Memory
 fromData n bits clock rising =
-    cond (eqb (clock % 2) 0) (memoryOf (afterBit n) (gathered n bits rising) clock) (memoryOf (Data n) bits clock)
+    cond (eqb (clock % 2) 0) (memoryOf (afterBit n) (withBit n bits rising) clock) (memoryOf (Data n) bits clock)
 
 -- "Done stays Done and an error stays"
 abbrev pub nextOf : Rc5State → ℕ → ℕ → Bool → Rc5Memory
@@ -87,8 +83,9 @@ readFrom m rising = nextOf (m .state) (m .bits) (m .clock) rising
 abbrev pub readAt : Rc5Memory → Bool → ℕ → Rc5Memory
 readAt m rising place = readFrom (ticked m place) rising
 
-unfoldable pub stepIn : List ℕ → List ℕ → Rc5Memory → Bool → ℕ → Rc5Memory
-stepIn low high m rising duration = readAt m rising (placeOf (lookupIn low high duration))
+-- each duration is looked up
+unfoldable pub stepIn : Spans → Rc5Memory → Edge → Rc5Memory
+stepIn = tickStep readAt
 
 -- an error is its own status
 abbrev pub statusOf : Rc5State → Status
@@ -97,66 +94,40 @@ statusOf (Data n) = status.Receiving
 statusOf Done = status.Done
 statusOf (Error fault) = status.Error fault
 
--- what `event` answers after a step
-abbrev pub stood : Rc5Memory → Rc5EventIn
-stood m = record { status = statusOf (m .state); memory = m }
+-- the rules as one machine: "`command` answers in every state"
+abbrev pub machine : Machine
+machine =
+    record {
+      Memory = Rc5Memory;
+      fresh = fresh;
+      refusal = λ m. cond (pastEnd (m .state)) refusal.pastEnd 0;
+      step = stepIn;
+      status = λ m. statusOf (m .state);
+      command = λ m. report.Command (command.Rc5 (unpackOf (m .bits)));
+      reset = resetIn;
+    }
 
--- refusal 4: "the state as given" comes back
-abbrev pub refused : Rc5Memory → Rc5EventIn
-refused m = record { status = status.Refused 4; memory = m }
+-- ---- the machine's answers, as declared
 
--- it "is tested at each edge"
-abbrev pub answered : Rc5Memory → Rc5Memory → Rc5EventIn
-answered m after = cond (pastEnd (m .state)) (refused m) (stood after)
+abbrev pub eventIn : EventAnswer Rc5Memory → Rc5EventIn
+eventIn a = record { status = a .status; memory = a .memory }
 
--- `event`
-unfoldable pub eventIn : List ℕ → List ℕ → Rc5Memory → Bool → ℕ → Rc5EventIn
-eventIn low high m rising duration = answered m (stepIn low high m rising duration)
+abbrev pub totalIn : TotalAnswer Rc5Memory → Rc5TotalIn
+totalIn a = record { report = a .report; memory = a .memory }
 
--- "`command` answers in every state"
-abbrev pub commandOf : Rc5Memory → Report
-commandOf m = report.Command (command.Rc5 (unpackOf (m .bits)))
+-- "Every decoder carries its eight spans inside its own state"
+abbrev pub decoderOf : Spans → Rc5Memory → Rc5Decoder
+decoderOf spans memory = record { spans = spans; memory = memory }
 
--- `event_total`: the rule of `reports`, over event, command and reset
-abbrev pub ruled : Rc5EventIn → Rc5TotalIn
-ruled e = record { report = ruleReport commandOf (e .status) (e .memory); memory = ruleAfter resetOf (e .status) (e .memory) }
+abbrev pub eventOf : Spans → EventAnswer Rc5Memory → Rc5Event
+eventOf spans a = record { status = a .status; decoder = decoderOf spans (a .memory) }
 
-unfoldable pub totalIn : List ℕ → List ℕ → Rc5Memory → Bool → ℕ → Rc5TotalIn
-totalIn low high m rising duration = ruled (eventIn low high m rising duration)
+abbrev pub totalOf : Spans → TotalAnswer Rc5Memory → Rc5Total
+totalOf spans a = record { report = a .report; decoder = decoderOf spans (a .memory) }
 
--- "Every decoder carries its eight spans inside its own state". Refusal 1: the spans are then those of the refused answer
-abbrev pub newAt : ℕ → Rc5Made
-newAt rate =
-    record { answer = spansOf 2 rate .answer; decoder = record { spans = spansOf 2 rate .spans; memory = fresh } }
-
-abbrev pub eventOf : Rc5Decoder → Bool → ℕ → Rc5Event
-eventOf d rising duration =
-    let e = eventIn (d .spans .low) (d .spans .high) (d .memory) rising duration in
-    record { status = e .status; decoder = record { spans = d .spans; memory = e .memory } }
-
-abbrev pub commandIn : Rc5Decoder → Report
-commandIn d = commandOf (d .memory)
-
-abbrev pub resetIn : Rc5Decoder → Rc5Decoder
-resetIn d = record { spans = d .spans; memory = resetOf (d .memory) }
-
-abbrev pub eventTotal : Rc5Decoder → Bool → ℕ → Rc5Total
-eventTotal d rising duration =
-    let t = totalIn (d .spans .low) (d .spans .high) (d .memory) rising duration in
-    record { report = t .report; decoder = record { spans = d .spans; memory = t .memory } }
-
--- event_total over a run of edges: an edge's report, the decoder after it, all reports, and the decoder after them
-abbrev pub edgeReport : Rc5Decoder → Edge → Report
-edgeReport d edge = eventTotal d (edge .rising) (edge .duration) .report
-
-abbrev pub edgeAfter : Rc5Decoder → Edge → Rc5Decoder
-edgeAfter d edge = eventTotal d (edge .rising) (edge .duration) .decoder
-
-abbrev pub reportsOf : Rc5Decoder → List Edge → List Report
-reportsOf d edges = runReports edgeReport edgeAfter d edges
-
-abbrev pub decoderAfter : Rc5Decoder → List Edge → Rc5Decoder
-decoderAfter d edges = runAfter edgeAfter d edges
+-- refusal 1: the spans are then those of the refused answer
+abbrev pub madeOf : SpansAnswer → Rc5Made
+madeOf made = record { answer = made .answer; decoder = decoderOf (made .spans) fresh }
 
 -- the states that a fresh decoder reaches through event_total: what ends a frame is reset at once
 abbrev pub reachable : Rc5State → Bool

@@ -8,7 +8,11 @@ use spans::Answer;
 use spans::Spans;
 ghost use mathlib.Core.Path.{_≡_};
 ghost use Prim.Native.Nat.{_≤_};
-ghost use Rattle.rc5.specs.Decoder.{pastEnd, fromIdle, gathered, fromData, counted, readFrom, refused, answered, fresh, eventIn, commandOf, resetOf, stood, ruled, totalIn, newAt, eventOf, commandIn, resetIn, eventTotal};
+ghost use Rattle.refusals.specs.Refusals as refusal;
+ghost use Rattle.spans.specs.Spans.{spansOf, ends};
+ghost use Rattle.reports.specs.Edges.{edge};
+ghost use Rattle.reports.specs.Machine.{refused, eventAfter, answered, event, ruled, total};
+ghost use Rattle.rc5.specs.Decoder.{pastEnd, resetIn, counted, fromIdle, withBit, fromData, readFrom, machine, eventIn, totalIn, decoderOf, eventOf, totalOf, madeOf};
 
 pub enum Rc5State {
     Idle,
@@ -87,9 +91,9 @@ fn from_idle(bits: u16, clock: u64, rising: bool) -> Rc5Memory
 }
 
 // A rising edge is a 1.
-fn gathered(n: u8, bits: u16, rising: bool) -> u16
+fn with_bit(n: u8, bits: u16, rising: bool) -> u16
     requires { ⌜ n ≤ 12 ⌝ }
-    ensures { λ r. ⌜ r ≡ gathered n bits rising ⌝ }
+    ensures { λ r. ⌜ r ≡ withBit n bits rising ⌝ }
 {
     if rising { bits | (1 << n) } else { bits }
 }
@@ -100,7 +104,7 @@ fn from_data(n: u8, bits: u16, clock: u64, rising: bool) -> Rc5Memory
     ensures { λ r. ⌜ r ≡ fromData n bits clock rising ⌝ }
 {
     if clock % 2 == 0 {
-        let bits = gathered(n, bits, rising);
+        let bits = with_bit(n, bits, rising);
         if n == 0 {
             Rc5Memory {
                 state: Rc5State::Done,
@@ -124,8 +128,8 @@ fn from_data(n: u8, bits: u16, clock: u64, rising: bool) -> Rc5Memory
 }
 
 // What `event` answers after a step, an arm for each state: one that is handed to another function is moved as one packed number.
-fn stood(m: Rc5Memory) -> Rc5EventIn
-    ensures { λ r. ⌜ r ≡ stood m ⌝ }
+fn event_after(m: Rc5Memory) -> Rc5EventIn
+    ensures { λ r. ⌜ r ≡ eventIn (eventAfter machine m) ⌝ }
 {
     let state = m.state;
     match state {
@@ -150,34 +154,34 @@ fn stood(m: Rc5Memory) -> Rc5EventIn
 
 // Refusal 4: all stays as it is.
 fn refused(m: Rc5Memory) -> Rc5EventIn
-    ensures { λ r. ⌜ r ≡ refused m ⌝ }
+    ensures { λ r. ⌜ r ≡ eventIn (refused refusal.pastEnd m) ⌝ }
 {
     Rc5EventIn {
-        status: Status::Refused(4),
+        status: Status::Refused(refusals::PAST_END),
         memory: m,
     }
 }
 
 // An edge after so many ticks; the clock goes round at 64 bits. Refusal 4 is tested where the counter is at hand.
 fn next_of(m: Rc5Memory, ticks: u64, rising: bool) -> Rc5EventIn
-    ensures { λ r. ⌜ r ≡ answered m (readFrom (counted m ticks) rising) ⌝ }
+    ensures { λ r. ⌜ r ≡ eventIn (answered machine m (readFrom (counted m ticks) rising)) ⌝ }
 {
     let bits = m.bits;
     let clock = std::num::wrapping_add_u64(m.clock, ticks);
     let state = m.state;
     match state {
-        Rc5State::Idle => stood(from_idle(bits, clock, rising)),
+        Rc5State::Idle => event_after(from_idle(bits, clock, rising)),
         Rc5State::Data(n) => if n <= 12 {
-            stood(from_data(n, bits, clock, rising))
+            event_after(from_data(n, bits, clock, rising))
         } else {
             refused(m)
         },
-        Rc5State::Done => stood(Rc5Memory {
+        Rc5State::Done => event_after(Rc5Memory {
             state: Rc5State::Done,
             bits,
             clock,
         }),
-        Rc5State::Error(fault) => stood(Rc5Memory {
+        Rc5State::Error(fault) => event_after(Rc5Memory {
             state: Rc5State::Error(fault),
             bits,
             clock,
@@ -187,24 +191,24 @@ fn next_of(m: Rc5Memory, ticks: u64, rising: bool) -> Rc5EventIn
 
 // No span resets at once, and the same edge is read from Idle.
 fn no_span(m: Rc5Memory, rising: bool) -> Rc5EventIn
-    ensures { λ r. ⌜ r ≡ answered m (readFrom (resetOf m) rising) ⌝ }
+    ensures { λ r. ⌜ r ≡ eventIn (answered machine m (readFrom (resetIn m) rising)) ⌝ }
 {
     let state = m.state;
     match state {
-        Rc5State::Idle => stood(from_idle(0, 0, rising)),
+        Rc5State::Idle => event_after(from_idle(0, 0, rising)),
         Rc5State::Data(n) => if 12 < n {
             refused(m)
         } else {
-            stood(from_idle(0, 0, rising))
+            event_after(from_idle(0, 0, rising))
         },
-        Rc5State::Done => stood(from_idle(0, 0, rising)),
-        Rc5State::Error(_) => stood(from_idle(0, 0, rising)),
+        Rc5State::Done => event_after(from_idle(0, 0, rising)),
+        Rc5State::Error(_) => event_after(from_idle(0, 0, rising)),
     }
 }
 
 // What a new decoder remembers.
 pub fn fresh() -> Rc5Memory
-    ensures { λ r. ⌜ r ≡ fresh ⌝ }
+    ensures { λ r. ⌜ r ≡ machine .fresh ⌝ }
 {
     Rc5Memory {
         state: Rc5State::Idle,
@@ -221,7 +225,7 @@ pub fn event_in<'a>(
     rising: bool,
     duration: u32,
 ) -> Rc5EventIn
-    ensures { λ r. ⌜ r ≡ eventIn (now (low .entry)) (now (high .entry)) m rising duration ⌝ }
+    ensures { λ r. ⌜ r ≡ eventIn (event machine (ends (now (low .entry)) (now (high .entry))) m (edge rising duration)) ⌝ }
 {
     match spans::place_of(spans::lookup_in(low, high, duration as u64)) {
         0 => next_of(m, 1, rising),
@@ -237,28 +241,28 @@ pub fn event_in<'a>(
 }
 
 // In every state, whatever the bits hold.
-pub fn command_of(m: Rc5Memory) -> Report
-    ensures { λ r. ⌜ r ≡ commandOf m ⌝ }
+pub fn command_in(m: Rc5Memory) -> Report
+    ensures { λ r. ⌜ r ≡ machine .command m ⌝ }
 {
     Report::Command(Command::Rc5(Rc5Command::unpack(m.bits)))
 }
 
 // Nothing is kept: a reset memory is a fresh one.
-pub fn reset_of(m: Rc5Memory) -> Rc5Memory
-    ensures { λ r. ⌜ r ≡ resetOf m ⌝ }
+pub fn reset_in(m: Rc5Memory) -> Rc5Memory
+    ensures { λ r. ⌜ r ≡ machine .reset m ⌝ }
 {
     fresh()
 }
 
 // The rule of `reports` over what event_in answers.
 fn ruled(event: Rc5EventIn) -> Rc5TotalIn
-    ensures { λ r. ⌜ r ≡ ruled event ⌝ }
+    ensures { λ r. ⌜ r ≡ totalIn (ruled machine (event .status) (event .memory)) ⌝ }
 {
     let status = event.status;
     let after = event.memory;
-    let report = reports::report_of(status, command_of(after));
+    let report = reports::report_of(status, command_in(after));
     if reports::resets(status) {
-        let memory = reset_of(after);
+        let memory = reset_in(after);
         Rc5TotalIn { report, memory }
     } else {
         Rc5TotalIn {
@@ -275,7 +279,7 @@ pub fn total_in<'a>(
     rising: bool,
     duration: u32,
 ) -> Rc5TotalIn
-    ensures { λ r. ⌜ r ≡ totalIn (now (low .entry)) (now (high .entry)) m rising duration ⌝ }
+    ensures { λ r. ⌜ r ≡ totalIn (total machine (ends (now (low .entry)) (now (high .entry))) m (edge rising duration)) ⌝ }
 {
     ruled(event_in(low, high, m, rising, duration))
 }
@@ -283,7 +287,7 @@ pub fn total_in<'a>(
 impl Rc5Decoder {
     // Refusal 1; the decoder then has the spans of the refused answer.
     pub fn new(rate: u32) -> Rc5Made
-        ensures { λ r. ⌜ r ≡ newAt rate ⌝ }
+        ensures { λ r. ⌜ r ≡ madeOf (spansOf 2 rate) ⌝ }
     {
         let made = spans::spans_of(2, rate);
         let answer = made.answer;
@@ -297,7 +301,7 @@ impl Rc5Decoder {
 
     // Refusal 4.
     pub fn event(self, rising: bool, duration: u32) -> Rc5Event
-        ensures { λ r. ⌜ r ≡ eventOf self rising duration ⌝ }
+        ensures { λ r. ⌜ r ≡ eventOf (self .spans) (event machine (self .spans) (self .memory) (edge rising duration)) ⌝ }
     {
         let spans = self.spans;
         let memory = self.memory;
@@ -314,18 +318,18 @@ impl Rc5Decoder {
     }
 
     pub fn command(self) -> Report
-        ensures { λ r. ⌜ r ≡ commandIn self ⌝ }
+        ensures { λ r. ⌜ r ≡ machine .command (self .memory) ⌝ }
     {
         let memory = self.memory;
-        command_of(memory)
+        command_in(memory)
     }
 
     pub fn reset(self) -> Rc5Decoder
-        ensures { λ r. ⌜ r ≡ resetIn self ⌝ }
+        ensures { λ r. ⌜ r ≡ decoderOf (self .spans) (machine .reset (self .memory)) ⌝ }
     {
         let spans = self.spans;
         let memory = self.memory;
-        let after = reset_of(memory);
+        let after = reset_in(memory);
         Rc5Decoder {
             spans,
             memory: after,
@@ -334,7 +338,7 @@ impl Rc5Decoder {
 
     // Refusal 4.
     pub fn event_total(self, rising: bool, duration: u32) -> Rc5Total
-        ensures { λ r. ⌜ r ≡ eventTotal self rising duration ⌝ }
+        ensures { λ r. ⌜ r ≡ totalOf (self .spans) (total machine (self .spans) (self .memory) (edge rising duration)) ⌝ }
     {
         let spans = self.spans;
         let memory = self.memory;

@@ -9,7 +9,7 @@ use native.Mathlib.Omega.{arith}
 use lib.ListN.{length, length-append}
 use lib.Seq.{sets}
 use Rattle.frames.specs.Frames.{bitSet, Fit, none, more}
-use Rattle.frames.proofs.Changes.{kept, changes, changed, changesBelow, none-below, one-more}
+use Rattle.frames.proofs.Changes.{sameAt, changes, changed, changesBelow, none-below, one-more}
 use Rattle.frames.proofs.Laid.{sets-append}
 use Rattle.rc5_encoder.specs.Encoder.{pieceOf, piecesAfter}
 
@@ -44,9 +44,9 @@ unfolding piecesAfter
 length-pieces single word zero = omega (arith, none-below word)
 length-pieces single word (suc left) =
     rw (length-append, one-more word left)
-    (omega (arith, length-piece single (kept word left), length-pieces single word left))
+    (omega (arith, length-piece single (sameAt word left), length-pieces single word left))
 
-pieces-more : (single word left : ℕ) → piecesBelow single word (left + 1) ≡ pieceOf single (kept word left) ++ piecesBelow single word left
+pieces-more : (single word left : ℕ) → piecesBelow single word (left + 1) ≡ pieceOf single (sameAt word left) ++ piecesBelow single word left
 unfolding piecesAfter
 pieces-more single word left = rw (add-one left)
 
@@ -54,7 +54,7 @@ pieces-more single word left = rw (add-one left)
 module _ (single word : ℕ) (change : Bool) (left : ℕ) (some : 0 < left) (told : change ≡ bitSet (changes word) (left - 1)) where
   pieces-next : piecesBelow single word left ≡ pieceOf single (not change) ++ piecesBelow single word (left - 1)
   pieces-next =
-      let equal : not change ≡ kept word (left - 1) = ap not (told ∙ changed word (left - 1)) ∙ not-not (kept word (left - 1)) in
+      let equal : not change ≡ sameAt word (left - 1) = ap not (told ∙ changed word (left - 1)) ∙ not-not (sameAt word (left - 1)) in
       let back : left ≡ left - 1 + 1 = omega arith in
       ap (piecesBelow single word) back ∙ rw equal (pieces-more single word (left - 1))
 

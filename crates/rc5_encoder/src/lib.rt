@@ -25,7 +25,7 @@ fn count(bits: u16) -> usize
     28 - u32::count_ones(changes(bits)) as usize
 }
 
-// One bit, at a place; the place behind it.
+// One bit, at a place; the place after it.
 fn put_bit(out: &mut [u32], at: usize, single: u32, changed: bool) -> usize
     requires { ⌜ (single < 2 ^ 31) × (at + length (pieceOf single (not changed)) ≤ length (now out)) ⌝ }
     ensures next { λ r. ⌜ r ≡ at + length (pieceOf single (not changed)) ⌝ }
@@ -41,7 +41,7 @@ fn put_bit(out: &mut [u32], at: usize, single: u32, changed: bool) -> usize
     }
 }
 
-// The 13 bits, highest first, behind the leading 0.
+// The 13 bits, highest first, after the leading 0.
 fn put_bits(out: &mut [u32], bits: u16, single: u32)
     requires { ⌜ (single < 2 ^ 31) × (length (frameOf bits single) ≤ length (now out)) ⌝ }
     ensures { λ _. ⌜ now (out .exit) ≡ sets (now (out .entry)) 1 (piecesAfter single bits true 13) ⌝ }
@@ -60,8 +60,8 @@ pub fn encode(command: Rc5Command, rate: u32, out: &mut [u32]) -> Encoded
     ensures answer { λ r. ⌜ r ≡ encodedOf rate (now (out .entry)) (rc5Frame command rate) ⌝ }
     ensures left { λ _. ⌜ now (out .exit) ≡ leftOf rate (now (out .entry)) (rc5Frame command rate) ⌝ }
 {
-    if !spans::rate_taken(rate) {
-        return Encoded::Refused(1);
+    if !refusals::rate_taken(rate) {
+        return Encoded::Refused(refusals::BAD_RATE);
     }
     let bits = command.pack();
     let needed = count(bits);

@@ -1,18 +1,18 @@
 -- Document 01, "Decoder steps", RC6.
 use Prim.Native.Nat.{ℕ, _+_, _-_, _%_, _^_}
 use mathlib.Core.Bool.{Bool, true, false, cond, not, _&&_}
-use mathlib.Core.List.{List}
 use lib.Dec.{leb, ltb, eqb}
 use lib.Bits.{bitOr}
-use Rattle.spans.specs.Spans.{spansOf}
-use Rattle.spans.specs.Lookup.{none, lookupIn, placeOf}
+use Rattle.refusals.specs.Refusals as refusal
+use Rattle.spans.specs.Lookup.{none}
+use Rattle.spans.specs.declared.Spans.{Spans}
+use Rattle.spans.specs.declared.SpansAnswer.{SpansAnswer}
 use Rattle.commands.specs.Rc6.{unpackOf}
 use Rattle.commands.specs.declared.Command.the-variants as command
-use Rattle.reports.specs.Rule.{ruleReport, ruleAfter}
-use Rattle.reports.specs.Run.{Edge, runReports, runAfter}
+use Rattle.reports.specs.Edges.{Edge}
+use Rattle.reports.specs.Machine.{Machine, EventAnswer, TotalAnswer, tickStep}
 use Rattle.reports.specs.declared.Status.{Status}
 use Rattle.reports.specs.declared.Status.the-variants as status
-use Rattle.reports.specs.declared.Report.{Report}
 use Rattle.reports.specs.declared.Report.the-variants as report
 use Rattle.rc6.specs.declared.decoder.Rc6State.{Rc6State}
 use Rattle.rc6.specs.declared.decoder.Rc6State.the-variants.{Idle, Leading, LeadingPause, HeaderData, Trailing, Data, Done, Error}
@@ -37,8 +37,7 @@ pastEnd (Error fault) = false
 
 -- what is remembered
 abbrev pub memoryOf : Rc6State → ℕ → ℕ → Bool → ℕ → Rc6Memory
-memoryOf state bits header toggle clock =
-    record { state = state; «data» = bits; header = header; toggle = toggle; clock = clock }
+memoryOf state bits header toggle clock = record { state = state; «data» = bits; header = header; toggle = toggle; clock = clock }
 
 -- the memory in another state
 abbrev pub inState : Rc6Memory → Rc6State → Rc6Memory
@@ -49,8 +48,8 @@ abbrev pub fresh : Rc6Memory
 fresh = memoryOf Idle 0 0 false 0
 
 -- reset: "it clears all but the toggle"
-abbrev pub resetOf : Rc6Memory → Rc6Memory
-resetOf m = memoryOf Idle 0 0 (m .toggle) 0
+abbrev pub resetIn : Rc6Memory → Rc6Memory
+resetIn m = memoryOf Idle 0 0 (m .toggle) 0
 
 -- "ticks are place + 1"
 abbrev pub ticksOf : ℕ → ℕ
@@ -62,7 +61,7 @@ counted m ticks = memoryOf (m .state) (m .«data») (m .header) (m .toggle) ((m 
 
 -- "No span resets at once"
 abbrev pub ticked : Rc6Memory → ℕ → Rc6Memory
-ticked m place = cond (eqb place none) (resetOf m) (counted m (ticksOf place))
+ticked m place = cond (eqb place none) (resetIn m) (counted m (ticksOf place))
 
 -- "a fall of 6 ticks, a rise of 2"
 abbrev pub isFall : Bool → ℕ → ℕ → Bool
@@ -76,13 +75,12 @@ abbrev pub isOdd : ℕ → Bool
 isOdd clock = eqb (clock % 2) 1
 
 -- "falling is 1"
-abbrev pub gathered : ℕ → ℕ → Bool → ℕ
-gathered n bits rising = cond rising bits (bitOr bits (2 ^ n))
+abbrev pub withBit : ℕ → ℕ → Bool → ℕ
+withBit n bits rising = cond rising bits (bitOr bits (2 ^ n))
 
 -- "Idle, Leading on a rising edge with clock zeroed"; a falling edge stays
 abbrev pub fromIdle : Rc6Memory → Bool → Rc6Memory
-fromIdle m rising =
-    cond rising (memoryOf Leading (m .«data») (m .header) (m .toggle) 0) (inState m Idle)
+fromIdle m rising = cond rising (memoryOf Leading (m .«data») (m .header) (m .toggle) 0) (inState m Idle)
 
 -- "a fall of 6 ticks". "Wrong pulses before the data go to Idle without reset"
 abbrev pub fromLeading : Rc6Memory → Bool → ℕ → Rc6Memory
@@ -100,7 +98,7 @@ afterHeader n = cond (eqb n 0) Trailing (HeaderData (n - 1))
 abbrev pub fromHeaderData : ℕ → Rc6Memory → Bool → Rc6Memory
 fromHeaderData n m rising =
     cond (isOdd (m .clock))
-    (memoryOf (afterHeader n) (m .«data») (gathered n (m .header) rising) (m .toggle) (m .clock))
+    (memoryOf (afterHeader n) (m .«data») (withBit n (m .header) rising) (m .toggle) (m .clock))
     (inState m (HeaderData n))
 
 -- the data begin, with the toggle that the trailer gave
@@ -121,7 +119,7 @@ afterData n = cond (eqb n 0) Done (Data (n - 1))
 abbrev pub fromData : ℕ → Rc6Memory → Bool → Rc6Memory
 fromData n m rising =
     cond (isOdd (m .clock))
-    (memoryOf (afterData n) (gathered n (m .«data») rising) (m .header) (m .toggle) (m .clock))
+    (memoryOf (afterData n) (withBit n (m .«data») rising) (m .header) (m .toggle) (m .clock))
     (inState m (Data n))
 
 -- "Done stays Done and an error stays"
@@ -135,16 +133,13 @@ nextOf (Data n) m rising ticks = fromData n m rising
 nextOf Done m rising ticks = inState m Done
 nextOf (Error fault) m rising ticks = inState m (Error fault)
 
--- an edge, read from what is remembered
-abbrev pub readFrom : Rc6Memory → Bool → ℕ → Rc6Memory
-readFrom m rising ticks = nextOf (m .state) m rising ticks
-
 -- "No span resets at once, then the same edge is read from Idle"
 abbrev pub readAt : Rc6Memory → Bool → ℕ → Rc6Memory
-readAt m rising place = readFrom (ticked m place) rising (ticksOf place)
+readAt m rising place = let t = ticked m place in nextOf (t .state) t rising (ticksOf place)
 
-unfoldable pub stepIn : List ℕ → List ℕ → Rc6Memory → Bool → ℕ → Rc6Memory
-stepIn low high m rising duration = readAt m rising (placeOf (lookupIn low high duration))
+-- "the same ticks" as RC5: each duration is looked up
+unfoldable pub stepIn : Spans → Rc6Memory → Edge → Rc6Memory
+stepIn = tickStep readAt
 
 -- idle in Idle, done in Done; an error is its own status
 abbrev pub statusOf : Rc6State → Status
@@ -157,66 +152,40 @@ statusOf (Data n) = status.Receiving
 statusOf Done = status.Done
 statusOf (Error fault) = status.Error fault
 
--- what `event` answers after a step
-abbrev pub stood : Rc6Memory → Rc6EventIn
-stood m = record { status = statusOf (m .state); memory = m }
+-- the rules as one machine: "`command` answers in every state"
+abbrev pub machine : Machine
+machine =
+    record {
+      Memory = Rc6Memory;
+      fresh = fresh;
+      refusal = λ m. cond (pastEnd (m .state)) refusal.pastEnd 0;
+      step = stepIn;
+      status = λ m. statusOf (m .state);
+      command = λ m. report.Command (command.Rc6 (unpackOf (m .«data») (m .toggle)));
+      reset = resetIn;
+    }
 
--- refusal 4: "the state as given" comes back
-abbrev pub refused : Rc6Memory → Rc6EventIn
-refused m = record { status = status.Refused 4; memory = m }
+-- ---- the machine's answers, as declared
 
--- it "is tested at each edge"
-abbrev pub answered : Rc6Memory → Rc6Memory → Rc6EventIn
-answered m after = cond (pastEnd (m .state)) (refused m) (stood after)
+abbrev pub eventIn : EventAnswer Rc6Memory → Rc6EventIn
+eventIn a = record { status = a .status; memory = a .memory }
 
--- `event`
-unfoldable pub eventIn : List ℕ → List ℕ → Rc6Memory → Bool → ℕ → Rc6EventIn
-eventIn low high m rising duration = answered m (stepIn low high m rising duration)
+abbrev pub totalIn : TotalAnswer Rc6Memory → Rc6TotalIn
+totalIn a = record { report = a .report; memory = a .memory }
 
--- "`command` answers in every state"
-abbrev pub commandOf : Rc6Memory → Report
-commandOf m = report.Command (command.Rc6 (unpackOf (m .«data») (m .toggle)))
+-- "Every decoder carries its eight spans inside its own state"
+abbrev pub decoderOf : Spans → Rc6Memory → Rc6Decoder
+decoderOf spans memory = record { spans = spans; memory = memory }
 
--- `event_total`: the rule of `reports`, over event, command and reset
-abbrev pub ruled : Rc6EventIn → Rc6TotalIn
-ruled e = record { report = ruleReport commandOf (e .status) (e .memory); memory = ruleAfter resetOf (e .status) (e .memory) }
+abbrev pub eventOf : Spans → EventAnswer Rc6Memory → Rc6Event
+eventOf spans a = record { status = a .status; decoder = decoderOf spans (a .memory) }
 
-unfoldable pub totalIn : List ℕ → List ℕ → Rc6Memory → Bool → ℕ → Rc6TotalIn
-totalIn low high m rising duration = ruled (eventIn low high m rising duration)
+abbrev pub totalOf : Spans → TotalAnswer Rc6Memory → Rc6Total
+totalOf spans a = record { report = a .report; decoder = decoderOf spans (a .memory) }
 
--- "Every decoder carries its eight spans inside its own state". Refusal 1: the spans are then those of the refused answer
-abbrev pub newAt : ℕ → Rc6Made
-newAt rate =
-    record { answer = spansOf 3 rate .answer; decoder = record { spans = spansOf 3 rate .spans; memory = fresh } }
-
-abbrev pub eventOf : Rc6Decoder → Bool → ℕ → Rc6Event
-eventOf d rising duration =
-    let e = eventIn (d .spans .low) (d .spans .high) (d .memory) rising duration in
-    record { status = e .status; decoder = record { spans = d .spans; memory = e .memory } }
-
-abbrev pub commandIn : Rc6Decoder → Report
-commandIn d = commandOf (d .memory)
-
-abbrev pub resetIn : Rc6Decoder → Rc6Decoder
-resetIn d = record { spans = d .spans; memory = resetOf (d .memory) }
-
-abbrev pub eventTotal : Rc6Decoder → Bool → ℕ → Rc6Total
-eventTotal d rising duration =
-    let t = totalIn (d .spans .low) (d .spans .high) (d .memory) rising duration in
-    record { report = t .report; decoder = record { spans = d .spans; memory = t .memory } }
-
--- event_total over a run of edges: an edge's report, the decoder after it, all reports, and the decoder after them
-abbrev pub edgeReport : Rc6Decoder → Edge → Report
-edgeReport d edge = eventTotal d (edge .rising) (edge .duration) .report
-
-abbrev pub edgeAfter : Rc6Decoder → Edge → Rc6Decoder
-edgeAfter d edge = eventTotal d (edge .rising) (edge .duration) .decoder
-
-abbrev pub reportsOf : Rc6Decoder → List Edge → List Report
-reportsOf d edges = runReports edgeReport edgeAfter d edges
-
-abbrev pub decoderAfter : Rc6Decoder → List Edge → Rc6Decoder
-decoderAfter d edges = runAfter edgeAfter d edges
+-- refusal 1: the spans are then those of the refused answer
+abbrev pub madeOf : SpansAnswer → Rc6Made
+madeOf made = record { answer = made .answer; decoder = decoderOf (made .spans) fresh }
 
 -- the states that a fresh decoder reaches through event_total: what ends a frame is reset at once
 abbrev pub reachable : Rc6State → Bool

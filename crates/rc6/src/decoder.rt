@@ -8,8 +8,12 @@ use spans::Answer;
 use spans::Spans;
 ghost use mathlib.Core.Path.{_≡_};
 ghost use Prim.Native.Nat.{_≤_};
+ghost use Rattle.refusals.specs.Refusals as refusal;
+ghost use Rattle.spans.specs.Spans.{ends, spansOf};
+ghost use Rattle.reports.specs.Edges.{edge};
+ghost use Rattle.reports.specs.Machine.{refused, eventAfter, answered, event, ruled, total};
 ghost use Rattle.rc6.specs.declared.decoder.Rc6State.the-variants.{Idle, HeaderData, Data};
-ghost use Rattle.rc6.specs.Decoder.{pastEnd, isFall, isRise, isOdd, gathered, inState, fromIdle, fromLeading, fromLeadingPause, fromHeaderData, trailed, fromTrailing, fromData, counted, readFrom, refused, answered, stood, fresh, eventIn, commandOf, resetOf, ruled, totalIn, newAt, eventOf, commandIn, resetIn, eventTotal};
+ghost use Rattle.rc6.specs.Decoder.{pastEnd, isFall, isRise, isOdd, withBit, inState, fromIdle, fromLeading, fromLeadingPause, fromHeaderData, trailed, fromTrailing, fromData, counted, nextOf, resetIn, machine, eventIn, totalIn, decoderOf, madeOf, eventOf, totalOf};
 
 pub enum Rc6State {
     Idle,
@@ -98,9 +102,9 @@ fn is_odd(clock: u64) -> bool
 }
 
 // A falling edge is 1.
-fn gathered(n: u32, bits: u16, rising: bool) -> u16
+fn with_bit(n: u32, bits: u16, rising: bool) -> u16
     requires { ⌜ n ≤ 15 ⌝ }
-    ensures { λ r. ⌜ r ≡ gathered n bits rising ⌝ }
+    ensures { λ r. ⌜ r ≡ withBit n bits rising ⌝ }
 {
     if rising { bits } else { bits | (1 << n) }
 }
@@ -198,7 +202,7 @@ fn from_header_data(n: u32, m: Rc6Memory, rising: bool) -> Rc6Memory
     ensures { λ r. ⌜ r ≡ fromHeaderData n m rising ⌝ }
 {
     if is_odd(m.clock) {
-        let header = gathered(n, m.header, rising);
+        let header = with_bit(n, m.header, rising);
         if n == 0 {
             Rc6Memory {
                 state: Rc6State::Trailing,
@@ -259,7 +263,7 @@ fn from_data(n: u32, m: Rc6Memory, rising: bool) -> Rc6Memory
     ensures { λ r. ⌜ r ≡ fromData n m rising ⌝ }
 {
     if is_odd(m.clock) {
-        let data = gathered(n, m.data, rising);
+        let data = with_bit(n, m.data, rising);
         if n == 0 {
             Rc6Memory {
                 state: Rc6State::Done,
@@ -283,8 +287,8 @@ fn from_data(n: u32, m: Rc6Memory, rising: bool) -> Rc6Memory
 }
 
 // What `event` answers after a step, an arm for each state: one that is handed to another function is moved as one packed number.
-fn stood(m: Rc6Memory) -> Rc6EventIn
-    ensures { λ r. ⌜ r ≡ stood m ⌝ }
+fn event_after(m: Rc6Memory) -> Rc6EventIn
+    ensures { λ r. ⌜ r ≡ eventIn (eventAfter machine m) ⌝ }
 {
     let state = m.state;
     match state {
@@ -325,10 +329,10 @@ fn stood(m: Rc6Memory) -> Rc6EventIn
 
 // Refusal 4: all stays as it is.
 fn refused(m: Rc6Memory) -> Rc6EventIn
-    ensures { λ r. ⌜ r ≡ refused m ⌝ }
+    ensures { λ r. ⌜ r ≡ eventIn (refused refusal.pastEnd m) ⌝ }
 {
     Rc6EventIn {
-        status: Status::Refused(4),
+        status: Status::Refused(refusals::PAST_END),
         memory: m,
     }
 }
@@ -348,33 +352,33 @@ fn clocked(m: Rc6Memory, ticks: u64) -> Rc6Memory
 
 // An edge after so many ticks. Refusal 4 is tested where the counter is at hand.
 fn next_of(m: Rc6Memory, ticks: u64, rising: bool) -> Rc6EventIn
-    ensures { λ r. ⌜ r ≡ answered m (readFrom (counted m ticks) rising ticks) ⌝ }
+    ensures { λ r. ⌜ r ≡ eventIn (answered machine m (nextOf (m .state) (counted m ticks) rising ticks)) ⌝ }
 {
     let counted = clocked(m, ticks);
     let state = m.state;
     match state {
-        Rc6State::Idle => stood(from_idle(counted, rising)),
-        Rc6State::Leading => stood(from_leading(counted, rising, ticks)),
-        Rc6State::LeadingPause => stood(from_leading_pause(counted, rising, ticks)),
+        Rc6State::Idle => event_after(from_idle(counted, rising)),
+        Rc6State::Leading => event_after(from_leading(counted, rising, ticks)),
+        Rc6State::LeadingPause => event_after(from_leading_pause(counted, rising, ticks)),
         Rc6State::HeaderData(n) => if n <= 3 {
-            stood(from_header_data(n, counted, rising))
+            event_after(from_header_data(n, counted, rising))
         } else {
             refused(in_header(n, m))
         },
-        Rc6State::Trailing => stood(from_trailing(counted, rising, ticks)),
+        Rc6State::Trailing => event_after(from_trailing(counted, rising, ticks)),
         Rc6State::Data(n) => if n <= 15 {
-            stood(from_data(n, counted, rising))
+            event_after(from_data(n, counted, rising))
         } else {
             refused(in_data(n, m))
         },
-        Rc6State::Done => stood(Rc6Memory {
+        Rc6State::Done => event_after(Rc6Memory {
             state: Rc6State::Done,
             data: counted.data,
             header: counted.header,
             toggle: counted.toggle,
             clock: counted.clock,
         }),
-        Rc6State::Error(fault) => stood(Rc6Memory {
+        Rc6State::Error(fault) => event_after(Rc6Memory {
             state: Rc6State::Error(fault),
             data: counted.data,
             header: counted.header,
@@ -385,8 +389,8 @@ fn next_of(m: Rc6Memory, ticks: u64, rising: bool) -> Rc6EventIn
 }
 
 // All is cleared but the toggle.
-pub fn reset_of(m: Rc6Memory) -> Rc6Memory
-    ensures { λ r. ⌜ r ≡ resetOf m ⌝ }
+pub fn reset_in(m: Rc6Memory) -> Rc6Memory
+    ensures { λ r. ⌜ r ≡ machine .reset m ⌝ }
 {
     Rc6Memory {
         state: Rc6State::Idle,
@@ -399,33 +403,33 @@ pub fn reset_of(m: Rc6Memory) -> Rc6Memory
 
 // No span resets at once, and the same edge is read from Idle.
 fn no_span(m: Rc6Memory, rising: bool) -> Rc6EventIn
-    ensures { λ r. ⌜ r ≡ answered m (fromIdle (resetOf m) rising) ⌝ }
+    ensures { λ r. ⌜ r ≡ eventIn (answered machine m (fromIdle (resetIn m) rising)) ⌝ }
 {
-    let cleared = reset_of(m);
+    let cleared = reset_in(m);
     let state = m.state;
     match state {
-        Rc6State::Idle => stood(from_idle(cleared, rising)),
-        Rc6State::Leading => stood(from_idle(cleared, rising)),
-        Rc6State::LeadingPause => stood(from_idle(cleared, rising)),
+        Rc6State::Idle => event_after(from_idle(cleared, rising)),
+        Rc6State::Leading => event_after(from_idle(cleared, rising)),
+        Rc6State::LeadingPause => event_after(from_idle(cleared, rising)),
         Rc6State::HeaderData(n) => if 3 < n {
             refused(in_header(n, m))
         } else {
-            stood(from_idle(cleared, rising))
+            event_after(from_idle(cleared, rising))
         },
-        Rc6State::Trailing => stood(from_idle(cleared, rising)),
+        Rc6State::Trailing => event_after(from_idle(cleared, rising)),
         Rc6State::Data(n) => if 15 < n {
             refused(in_data(n, m))
         } else {
-            stood(from_idle(cleared, rising))
+            event_after(from_idle(cleared, rising))
         },
-        Rc6State::Done => stood(from_idle(cleared, rising)),
-        Rc6State::Error(_) => stood(from_idle(cleared, rising)),
+        Rc6State::Done => event_after(from_idle(cleared, rising)),
+        Rc6State::Error(_) => event_after(from_idle(cleared, rising)),
     }
 }
 
 // What a new decoder remembers.
 pub fn fresh() -> Rc6Memory
-    ensures { λ r. ⌜ r ≡ fresh ⌝ }
+    ensures { λ r. ⌜ r ≡ machine .fresh ⌝ }
 {
     Rc6Memory {
         state: Rc6State::Idle,
@@ -444,7 +448,7 @@ pub fn event_in<'a>(
     rising: bool,
     duration: u32,
 ) -> Rc6EventIn
-    ensures { λ r. ⌜ r ≡ eventIn (now (low .entry)) (now (high .entry)) m rising duration ⌝ }
+    ensures { λ r. ⌜ r ≡ eventIn (event machine (ends (now (low .entry)) (now (high .entry))) m (edge rising duration)) ⌝ }
 {
     match spans::place_of(spans::lookup_in(low, high, duration as u64)) {
         0 => next_of(m, 1, rising),
@@ -460,21 +464,21 @@ pub fn event_in<'a>(
 }
 
 // A command in every state.
-pub fn command_of(m: Rc6Memory) -> Report
-    ensures { λ r. ⌜ r ≡ commandOf m ⌝ }
+pub fn command_in(m: Rc6Memory) -> Report
+    ensures { λ r. ⌜ r ≡ machine .command m ⌝ }
 {
     Report::Command(Command::Rc6(Rc6Command::unpack(m.data, m.toggle)))
 }
 
 // The rule of `reports` over what event_in answers.
 fn ruled(event: Rc6EventIn) -> Rc6TotalIn
-    ensures { λ r. ⌜ r ≡ ruled event ⌝ }
+    ensures { λ r. ⌜ r ≡ totalIn (ruled machine (event .status) (event .memory)) ⌝ }
 {
     let status = event.status;
     let after = event.memory;
-    let report = reports::report_of(status, command_of(after));
+    let report = reports::report_of(status, command_in(after));
     if reports::resets(status) {
-        let memory = reset_of(after);
+        let memory = reset_in(after);
         Rc6TotalIn { report, memory }
     } else {
         Rc6TotalIn {
@@ -491,7 +495,7 @@ pub fn total_in<'a>(
     rising: bool,
     duration: u32,
 ) -> Rc6TotalIn
-    ensures { λ r. ⌜ r ≡ totalIn (now (low .entry)) (now (high .entry)) m rising duration ⌝ }
+    ensures { λ r. ⌜ r ≡ totalIn (total machine (ends (now (low .entry)) (now (high .entry))) m (edge rising duration)) ⌝ }
 {
     ruled(event_in(low, high, m, rising, duration))
 }
@@ -499,7 +503,7 @@ pub fn total_in<'a>(
 impl Rc6Decoder {
     // Refusal 1; the decoder then has the spans of the refused answer.
     pub fn new(rate: u32) -> Rc6Made
-        ensures { λ r. ⌜ r ≡ newAt rate ⌝ }
+        ensures { λ r. ⌜ r ≡ madeOf (spansOf 3 rate) ⌝ }
     {
         let made = spans::spans_of(3, rate);
         let answer = made.answer;
@@ -513,7 +517,7 @@ impl Rc6Decoder {
 
     // Refusal 4.
     pub fn event(self, rising: bool, duration: u32) -> Rc6Event
-        ensures { λ r. ⌜ r ≡ eventOf self rising duration ⌝ }
+        ensures { λ r. ⌜ r ≡ eventOf (self .spans) (event machine (self .spans) (self .memory) (edge rising duration)) ⌝ }
     {
         let spans = self.spans;
         let memory = self.memory;
@@ -530,18 +534,18 @@ impl Rc6Decoder {
     }
 
     pub fn command(self) -> Report
-        ensures { λ r. ⌜ r ≡ commandIn self ⌝ }
+        ensures { λ r. ⌜ r ≡ machine .command (self .memory) ⌝ }
     {
         let memory = self.memory;
-        command_of(memory)
+        command_in(memory)
     }
 
     pub fn reset(self) -> Rc6Decoder
-        ensures { λ r. ⌜ r ≡ resetIn self ⌝ }
+        ensures { λ r. ⌜ r ≡ decoderOf (self .spans) (machine .reset (self .memory)) ⌝ }
     {
         let spans = self.spans;
         let memory = self.memory;
-        let after = reset_of(memory);
+        let after = reset_in(memory);
         Rc6Decoder {
             spans,
             memory: after,
@@ -550,7 +554,7 @@ impl Rc6Decoder {
 
     // Refusal 4.
     pub fn event_total(self, rising: bool, duration: u32) -> Rc6Total
-        ensures { λ r. ⌜ r ≡ eventTotal self rising duration ⌝ }
+        ensures { λ r. ⌜ r ≡ totalOf (self .spans) (total machine (self .spans) (self .memory) (edge rising duration)) ⌝ }
     {
         let spans = self.spans;
         let memory = self.memory;

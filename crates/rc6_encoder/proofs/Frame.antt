@@ -16,7 +16,7 @@ use Rattle.frames.proofs.Changes.{changes, changesBelow, below-le, one-more, to
 use Rattle.frames.proofs.LowBits.{same-bits}
 use Rattle.rc6_encoder.specs.Encoder.{Level, high, low, highestFirst, levelsOf, merged, inTicks, frameOf}
 use Rattle.rc6_encoder.specs.EncoderSteps.{levelOf, wordOf, wordLevels, wordFrame}
-use Rattle.rc6_encoder.proofs.Turns.{length-behind}
+use Rattle.rc6_encoder.proofs.Turns.{length-later}
 
 -- the word's parts: a 1, the start bit 1, the mode 000 and the toggle above, the 16 bits below
 module _ (bits : ℕ) (small : bits < 65536) where
@@ -77,7 +77,7 @@ module _ (word : ℕ) (under : word / 2097152 ≡ 1) where
   length-word =
       let above : bitSet word 21 ≡ true = ap (λ (n : ℕ). eqb (n % 2) 1) under in
       let bits = ap (λ (one : Bool). length (merged (levelOf (not one) 2) (wordLevels word 21))) above in
-      omega (arith, bits, length-behind word 2 21)
+      omega (arith, bits, length-later word 2 21)
 
   -- the changes and the last bit tell the length
   pub counted : length (wordFrame word) + ones (changes word) + word % 2 ≡ 46
@@ -110,12 +110,29 @@ module _ (bits : ℕ) (small : bits < 65536) (toggle : Bool) where
   pub length-is : (unit : ℕ) → length (frameOf toggle bits unit) ≡ length (wordFrame word)
   length-is unit = ap length (frame-is unit) ∙ length-map (wordFrame word) _
 
-  -- "At most 44 durations"
-  pub at-most : (unit : ℕ) → length (frameOf toggle bits unit) ≤ 44
-  at-most unit = omega (arith, length-is unit, length-word word (top bits small toggle), header-changes, last-le)
+  most : (unit : ℕ) → length (frameOf toggle bits unit) ≤ 44
+  most unit = omega (arith, length-is unit, length-word word (top bits small toggle), header-changes, last-le)
 
-  pub at-least : (unit : ℕ) → 26 ≤ length (frameOf toggle bits unit)
-  at-least unit = omega (arith, length-is unit, length-word word (top bits small toggle), header-changes, below-le word 17)
+  least : (unit : ℕ) → 26 ≤ length (frameOf toggle bits unit)
+  least unit = omega (arith, length-is unit, length-word word (top bits small toggle), header-changes, below-le word 17)
+
+-- only the low 16 bits are sent
+same-levels : (one two left : ℕ) → ((place : ℕ) → place < left → bitSet one place ≡ bitSet two place) → highestFirst one left ≡ highestFirst two left
+unfolding highestFirst
+same-levels one two zero same = refl
+same-levels one two (suc left) same = rw (same left (le-refl (suc left)), same-levels one two left (λ place h. same place (omega arith)))
+
+module _ (bits : ℕ) (toggle : Bool) (unit : ℕ) where
+  low-frame : frameOf toggle bits unit ≡ frameOf toggle (bits % 65536) unit
+  unfolding frameOf levelsOf
+  low-frame = rw (same-levels bits (bits % 65536) 16 (same-bits bits (bits % 65536) 16 (omega arith)))
+
+  -- "At most 44 durations", whatever the bits
+  pub at-most : length (frameOf toggle bits unit) ≤ 44
+  at-most = rw low-frame (most (bits % 65536) (omega arith) toggle unit)
+
+  pub at-least : 26 ≤ length (frameOf toggle bits unit)
+  at-least = rw low-frame (least (bits % 65536) (omega arith) toggle unit)
 
 -- what is known of the word that was made and of the packed bits
 module _ (word bits packed : ℕ) (toggle : Bool) (unit : ℕ) (made : word ≡ wordOf toggle bits) (told : bits ≡ packed) (small : bits < 65536) where

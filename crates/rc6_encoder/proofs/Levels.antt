@@ -56,7 +56,7 @@ two-levels stretch first second one more unit out between left e o f l = (
   l ∙ ap₂ (λ (d : List ℕ) (r : Stretch). sets d (r .at) (inTicks unit (written r (not one)))) o e ∙ bit-laid unit (stretch .high) one (stretch .units) more (stretch .at) out,
 )
 
--- the same, of the list of levels: what a bit writes, and then the rest behind its second level
+-- the same, of the list of levels: what a bit writes, and then the rest after its second level
 pub bit-merged : (level one : Bool) (units more at : ℕ) (levels : List Level)
     → merged (levelOf level units) (bitLevels more one ++ levels)
     ≡ joined (stretchOf level units at) one more ++ merged (levelOf (not one) more) levels

@@ -23,29 +23,29 @@ joined-length true false units more at = refl
 joined-length false true units more at = refl
 joined-length false false units more at = refl
 
--- behind a bit its second half stands: high where the bit is 0
-abbrev behind : ℕ → ℕ → ℕ → List ℕ
-behind word units left = merged (levelOf (not (bitSet word left)) units) (wordLevels word left)
+-- after a bit its second half stands: high where the bit is 0
+abbrev later : ℕ → ℕ → ℕ → List ℕ
+later word units left = merged (levelOf (not (bitSet word left)) units) (wordLevels word left)
 
 closing : (one : Bool) (units : ℕ) → length (merged (levelOf (not one) units) []) ≡ cond one 0 1
 unfolding merged
 closing true units = refl
 closing false units = refl
 
-pub length-behind : (word units left : ℕ) → length (behind word units left) + changesBelow word left ≡ 2 * left + cond (bitSet word 0) 0 1
+pub length-later : (word units left : ℕ) → length (later word units left) + changesBelow word left ≡ 2 * left + cond (bitSet word 0) 0 1
 unfolding wordLevels
-length-behind word units zero = omega (arith, none-below word, closing (bitSet word 0) units)
-length-behind word units (suc left) =
+length-later word units zero = omega (arith, none-below word, closing (bitSet word 0) units)
+length-later word units (suc left) =
     let stretch = stretchOf (not (bitSet word (suc left))) units 0 in
     let next =
     ap length (bit-merged (not (bitSet word (suc left))) (bitSet word left) units (halfOf left) 0 (wordLevels word left))
-    ∙ length-append (joined stretch (bitSet word left) (halfOf left)) (behind word (halfOf left) left) in
+    ∙ length-append (joined stretch (bitSet word left) (halfOf left)) (later word (halfOf left) left) in
     omega (
       arith,
       next,
       one-more word left,
       joined-length (bitSet word (suc left)) (bitSet word left) units (halfOf left) 0,
-      length-behind word (halfOf left) left,
+      length-later word (halfOf left) left,
     )
 
 pub half-le : (left : ℕ) → halfOf left ≤ 2

@@ -75,7 +75,7 @@ fn count(word: u32) -> usize
     (46 - u32::count_ones(word ^ word >> 1) - (word & 1)) as usize
 }
 
-// High 6 and low 2, behind a low of 0.
+// High 6 and low 2, after a low of 0.
 fn leader(out: &mut [u32], unit: u32) -> Stretch
     requires { ⌜ (2 ≤ length (now out)) × (unit ≤ 4294) ⌝ }
     ensures next { λ r. ⌜ r ≡ record { high = false; units = 2; at = 2 } ⌝ }
@@ -90,7 +90,7 @@ fn leader(out: &mut [u32], unit: u32) -> Stretch
     level(out, unit, first, false, 2)
 }
 
-// The 21 bits, highest first, behind what stands. What stands after them.
+// The 21 bits, highest first, after what stands. What stands after them.
 fn put_bits(out: &mut [u32], unit: u32, stretch: Stretch, word: u32) -> Stretch
     requires { ⌜ (stretch .at + length (merged (standing stretch) (wordLevels word 21)) ≤ length (now out)) × (stretch .units ≤ 2) × (unit ≤ 4294) ⌝ }
     ensures few { λ r. ⌜ r .units ≤ 2 ⌝ }
@@ -126,8 +126,8 @@ pub fn encode(command: Rc6Command, rate: u32, out: &mut [u32]) -> Encoded
     ensures answer { λ r. ⌜ r ≡ encodedOf rate (now (out .entry)) (rc6Frame command rate) ⌝ }
     ensures left { λ _. ⌜ now (out .exit) ≡ leftOf rate (now (out .entry)) (rc6Frame command rate) ⌝ }
 {
-    if !spans::rate_taken(rate) {
-        return Encoded::Refused(1);
+    if !refusals::rate_taken(rate) {
+        return Encoded::Refused(refusals::BAD_RATE);
     }
     let word = word(command.toggle, command.pack());
     let needed = count(word);

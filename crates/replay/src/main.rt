@@ -4,11 +4,11 @@ mod on_frames;
 mod on_spans;
 
 use calls::call_of;
+use calls::call_text::put_answer;
+use calls::on_slots::CallAnswer;
 use calls::on_slots::Slots;
-use calls::on_slots::Told;
 use calls::on_slots::all_closed;
 use calls::on_slots::answered;
-use calls::told::put_told;
 use libc::STDERR_FILENO;
 use libc::STDIN_FILENO;
 use libc::STDOUT_FILENO;
@@ -27,13 +27,13 @@ pub struct Input {
     pub is_end: bool,
 }
 
-// A line, and the input behind it.
+// A line, and the input after it.
 pub struct Reading {
     pub line: Line,
     pub input: Input,
 }
 
-// All that is kept between lines: the place in the text that gathers the answers, and the slots.
+// All that is held between lines: the place in the text that gathers the answers, and the slots.
 pub struct State {
     pub at: usize,
     pub slots: Slots,
@@ -52,24 +52,30 @@ fn flushed(text: &[u8], at: usize, room: usize) -> usize {
     at
 }
 
-fn put_answer(text: &mut [u8], at: usize, call: usize, n: &[u64; 8], told: Told) -> usize {
+fn put_call_answer(
+    text: &mut [u8],
+    at: usize,
+    call: usize,
+    n: &[u64; 8],
+    answer: CallAnswer,
+) -> usize {
     if call == calls::SPANS {
         return put_spans_call(text, at, n[0], n[1]);
     }
     if call == calls::ENCODE {
         return put_encode_call(text, at, n);
     }
-    put_told(text, at, told)
+    put_answer(text, at, answer)
 }
 
 // A line's call is answered.
 fn line_answered(text: &mut [u8], state: State, line: Line, n: &[u64; 8]) -> State {
     let slots = state.slots;
     let call = call_of(line, n);
-    let outcome = answered(call, n, slots);
-    let told = outcome.told;
-    let after = outcome.slots;
-    let next = put_answer(text, state.at, call, n, told);
+    let both = answered(call, n, slots);
+    let answer = both.answer;
+    let after = both.slots;
+    let next = put_call_answer(text, state.at, call, n, answer);
     let next = put(text, next, b'\n');
     State {
         at: flushed(text, next, 4096),

@@ -1,8 +1,8 @@
 // The call on spans: spans PROTOCOL RATE.
+use answer_text::put_phrase;
+use answer_text::put_spans;
 use answers::is_taken;
 use answers::of_answer;
-use text::put_said;
-use text::put_spans;
 use words::low_32;
 
 pub fn put_spans_call(text: &mut [u8], at: usize, protocol: u64, rate: u64) -> usize {
@@ -10,7 +10,7 @@ pub fn put_spans_call(text: &mut [u8], at: usize, protocol: u64, rate: u64) -> u
     let answer = built.answer;
     let spans = built.spans;
     if !is_taken(answer) {
-        return put_said(text, at, of_answer(answer));
+        return put_phrase(text, at, of_answer(answer));
     }
     put_spans(text, at, spans)
 }

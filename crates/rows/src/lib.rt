@@ -1,16 +1,16 @@
 // The lines of the tour's tables, put into a lent slice: each takes the place where its text starts, and answers the next one.
-use answers::Said;
-use answers::flag;
+use answer_text::put_phrase;
+use answers::Phrase;
 use answers::is_nothing;
 use answers::of_report;
 use reports::Report;
 use text::put;
 use text::put_letters;
 use text::put_right;
-use text::put_said;
 ghost use mathlib.Core.Path.{_≡_};
-ghost use Rattle.answers.specs.Answers.{reportSaid};
-ghost use Rattle.text.specs.Text.{putsOf, saidText};
+ghost use Rattle.answers.specs.Answers.{reportPhrase};
+ghost use Rattle.text.specs.Text.{putsOf};
+ghost use Rattle.answer_text.specs.AnswerText.{phraseText};
 ghost use Rattle.rows.specs.Rows.{gapText, levelText, timeText, edgeText, addressText, startText, boundsText, sendText, firstText, countsText, sentText};
 
 // What stands before a column of text.
@@ -22,7 +22,7 @@ fn put_gap(text: &mut [u8], at: usize) -> usize
     put(text, next, b' ')
 }
 
-// Behind two blanks: rise or fall.
+// After two blanks: rise or fall.
 fn put_level(text: &mut [u8], at: usize, rising: bool) -> usize
     ensures next { λ r. ⌜ r ≡ putsOf (now (text .entry)) at (levelText rising) .1 ⌝ }
     ensures left { λ _. ⌜ now (text .exit) ≡ putsOf (now (text .entry)) at (levelText rising) .0 ⌝ }
@@ -53,13 +53,13 @@ pub fn put_edge(
     number: u64,
     rising: bool,
     duration: u32,
-    said: Said,
+    phrase: Phrase,
 ) -> usize
-    ensures next { λ r. ⌜ r ≡ putsOf (now (text .entry)) at (edgeText number rising duration said) .1 ⌝ }
-    ensures left { λ _. ⌜ now (text .exit) ≡ putsOf (now (text .entry)) at (edgeText number rising duration said) .0 ⌝ }
+    ensures next { λ r. ⌜ r ≡ putsOf (now (text .entry)) at (edgeText number rising duration phrase) .1 ⌝ }
+    ensures left { λ _. ⌜ now (text .exit) ≡ putsOf (now (text .entry)) at (edgeText number rising duration phrase) .0 ⌝ }
 {
     let next = put_time(text, at, number, rising, duration);
-    put_said(text, next, said)
+    put_phrase(text, next, phrase)
 }
 
 // On a new line a frame's protocol, its address and its command.
@@ -79,16 +79,16 @@ fn put_start(text: &mut [u8], at: usize, start: u8, toggle: bool) -> usize
     ensures left { λ _. ⌜ now (text .exit) ≡ putsOf (now (text .entry)) at (startText start toggle) .0 ⌝ }
 {
     let next = put_right(text, at, 6, start as u64);
-    put_right(text, next, 7, flag(toggle))
+    put_right(text, next, 7, toggle as u64)
 }
 
-// The silence before it, and the wrong of its durations.
-fn put_bounds(text: &mut [u8], at: usize, silence: u32, wrong: u32) -> usize
-    ensures next { λ r. ⌜ r ≡ putsOf (now (text .entry)) at (boundsText silence wrong) .1 ⌝ }
-    ensures left { λ _. ⌜ now (text .exit) ≡ putsOf (now (text .entry)) at (boundsText silence wrong) .0 ⌝ }
+// The silence before it, and the deviation of its durations.
+fn put_bounds(text: &mut [u8], at: usize, silence: u32, deviation: u32) -> usize
+    ensures next { λ r. ⌜ r ≡ putsOf (now (text .entry)) at (boundsText silence deviation) .1 ⌝ }
+    ensures left { λ _. ⌜ now (text .exit) ≡ putsOf (now (text .entry)) at (boundsText silence deviation) .0 ⌝ }
 {
     let next = put_right(text, at, 8, silence as u64);
-    let next = put_right(text, next, 6, wrong as u64);
+    let next = put_right(text, next, 10, deviation as u64);
     put_gap(text, next)
 }
 
@@ -102,21 +102,21 @@ pub fn put_sending(
     start: u8,
     toggle: bool,
     silence: u32,
-    wrong: u32,
+    deviation: u32,
 ) -> usize
-    ensures next { λ r. ⌜ r ≡ putsOf (now (text .entry)) at (sendText protocol addr cmd start toggle silence wrong) .1 ⌝ }
-    ensures left { λ _. ⌜ now (text .exit) ≡ putsOf (now (text .entry)) at (sendText protocol addr cmd start toggle silence wrong) .0 ⌝ }
+    ensures next { λ r. ⌜ r ≡ putsOf (now (text .entry)) at (sendText protocol addr cmd start toggle silence deviation) .1 ⌝ }
+    ensures left { λ _. ⌜ now (text .exit) ≡ putsOf (now (text .entry)) at (sendText protocol addr cmd start toggle silence deviation) .0 ⌝ }
 {
     let next = put_address(text, at, protocol, addr, cmd);
     let next = put_start(text, next, start, toggle);
-    put_bounds(text, next, silence, wrong)
+    put_bounds(text, next, silence, deviation)
 }
 
 fn put_report(text: &mut [u8], at: usize, report: Report) -> usize
-    ensures next { λ r. ⌜ r ≡ putsOf (now (text .entry)) at (saidText (reportSaid report)) .1 ⌝ }
-    ensures left { λ _. ⌜ now (text .exit) ≡ putsOf (now (text .entry)) at (saidText (reportSaid report)) .0 ⌝ }
+    ensures next { λ r. ⌜ r ≡ putsOf (now (text .entry)) at (phraseText (reportPhrase report)) .1 ⌝ }
+    ensures left { λ _. ⌜ now (text .exit) ≡ putsOf (now (text .entry)) at (phraseText (reportPhrase report)) .0 ⌝ }
 {
-    put_said(text, at, of_report(report))
+    put_phrase(text, at, of_report(report))
 }
 
 // What the first edge reported, in a column of ten.

@@ -1,5 +1,4 @@
--- Laws of the SBP decoder: no call changes its spans; and a fresh one, used through event_total, stays in Init, in Divider, or at a counter
--- of at most 15 in the address and 19 in the command.
+-- A fresh SBP decoder, used through event_total, stays in Init, in Divider, or at a counter of at most 15 in the address and 19 in the command.
 -- A step keeps the counter in reach, by cases on the state and its tests; the rule resets whatever ends a frame. Assumes nothing.
 use mathlib.Core.Path.{_≡_, refl, _∙_}
 use mathlib.Core.Bool.{Bool, true, false, cond}
@@ -8,25 +7,16 @@ use Prim.Native.Nat.{ℕ, _≤_, _+_}
 use native.Mathlib.Omega.{arith}
 use lib.Dec.{eqb, ltb}
 use borrow.Author.Tests.{leb-true, le-leb, le-ltb, ltb-false, eqb-false}
-use Rattle.spans.specs.Lookup.{lookupIn, placeOf}
-use Rattle.reports.specs.Run.{Edge}
-use Rattle.reports.proofs.Run.{after-keeps}
+use Rattle.spans.specs.Lookup.{lookupOf, placeOf}
+use Rattle.spans.specs.declared.Spans.{Spans}
+use Rattle.reports.specs.Edges.{Edge, edge}
+use Rattle.reports.specs.Machine.{totalAfter, runAfter}
+use Rattle.reports.proofs.Machine.{run-reaches}
 use Rattle.reports.proofs.Either.{either}
-use Rattle.sbp.specs.Decoder.{pastEnd, reachable, nextOf, stepIn, stood, ruled, eventIn, totalIn, newAt, eventOf, resetIn, eventTotal, edgeAfter, decoderAfter}
+use Rattle.sbp.specs.Decoder.{pastEnd, reachable, nextOf, stepIn, machine}
 use Rattle.sbp.specs.declared.decoder.SbpState.{SbpState}
 use Rattle.sbp.specs.declared.decoder.SbpState.the-variants.{Init, Address, Divider, Command, Done, Error}
 use Rattle.sbp.specs.declared.decoder.SbpMemory.{SbpMemory}
-use Rattle.sbp.specs.declared.decoder.SbpDecoder.{SbpDecoder}
-
-module _ (d : SbpDecoder) (rising : Bool) (duration : ℕ) where
-  pub event-keeps-spans : eventOf d rising duration .decoder .spans ≡ d .spans
-  event-keeps-spans = refl
-
-  pub event-total-keeps-spans : eventTotal d rising duration .decoder .spans ≡ d .spans
-  event-total-keeps-spans = refl
-
-pub reset-keeps-spans : (d : SbpDecoder) → resetIn d .spans ≡ d .spans
-reset-keeps-spans d = refl
 
 abbrev InReach : SbpMemory → Type 0
 InReach n = pastEnd (n .state) ≡ false
@@ -61,37 +51,24 @@ reachable-in-reach (Command n) h = le-ltb 19 n (leb-true n 19 h)
 reachable-in-reach Done h = refl
 reachable-in-reach (Error fault) h = refl
 
-ruled-reachable
-    : (m : SbpMemory) (state : SbpState) → m .state ≡ state → pastEnd state ≡ false → reachable (ruled (stood m) .memory .state) ≡ true
-ruled-reachable m Init e h = simp e
-ruled-reachable m (Address n) e h = simp e (le-leb n 15 (ltb-false 15 n h))
-ruled-reachable m Divider e h = simp e
-ruled-reachable m (Command n) e h = simp e (le-leb n 19 (ltb-false 19 n h))
-ruled-reachable m Done e h = simp e
-ruled-reachable m (Error fault) e h = simp e
+total-after-reachable
+    : (m : SbpMemory) (state : SbpState) → m .state ≡ state → pastEnd state ≡ false → reachable (totalAfter machine m .memory .state) ≡ true
+total-after-reachable m Init e h = simp e
+total-after-reachable m (Address n) e h = simp e (le-leb n 15 (ltb-false 15 n h))
+total-after-reachable m Divider e h = simp e
+total-after-reachable m (Command n) e h = simp e (le-leb n 19 (ltb-false 19 n h))
+total-after-reachable m Done e h = simp e
+total-after-reachable m (Error fault) e h = simp e
 
-module _ (low high : List ℕ) (m : SbpMemory) (duration : ℕ) where
-  step-in-reach : (rising : Bool) → pastEnd (m .state) ≡ false → pastEnd (stepIn low high m rising duration .state) ≡ false
-  unfolding stepIn
-  step-in-reach true h = next-in-reach (m .state) (placeOf (lookupIn low high (m .saved + duration))) (m .address) (m .command) (m .saved) h
-  step-in-reach false h = h
+step-in-reach : (spans : Spans) (m : SbpMemory) (rising : Bool) (duration : ℕ) → InReach m → InReach (stepIn spans m (edge rising duration))
+unfolding stepIn
+step-in-reach spans m true duration h = next-in-reach (m .state) (placeOf (lookupOf spans (m .saved + duration))) (m .address) (m .command) (m .saved) h
+step-in-reach spans m false duration h = h
 
-  -- an edge that is not refused: the rule after the step
-  pub total-taken : (rising : Bool) → pastEnd (m .state) ≡ false → totalIn low high m rising duration ≡ ruled (stood (stepIn low high m rising duration))
-  unfolding totalIn eventIn
-  total-taken rising h = rw h
-
-  pub total-reachable : (rising : Bool) → reachable (m .state) ≡ true → reachable (totalIn low high m rising duration .memory .state) ≡ true
-  total-reachable rising h =
-      let p = reachable-in-reach (m .state) h in
-      rw (total-taken rising p) (ruled-reachable (stepIn low high m rising duration) _ refl (step-in-reach rising p))
-
-pub fresh-reachable : (rate : ℕ) → reachable (newAt rate .decoder .memory .state) ≡ true
-fresh-reachable rate = refl
-
-pub run-reachable
-    : (rate : ℕ) (edges : List Edge) → reachable (decoderAfter (newAt rate .decoder) edges .memory .state) ≡ true
-run-reachable rate edges =
-    after-keeps edgeAfter (λ d. reachable (d .memory .state) ≡ true)
-    (λ d edge h. total-reachable (d .spans .low) (d .spans .high) (d .memory) (edge .duration) (edge .rising) h)
-    (newAt rate .decoder) edges (fresh-reachable rate)
+pub run-reachable : (spans : Spans) (edges : List Edge) → reachable (runAfter machine spans (machine .fresh) edges .state) ≡ true
+run-reachable spans edges =
+    run-reaches machine spans (λ m. reachable (m .state) ≡ true) InReach
+    (λ m h. rw (reachable-in-reach (m .state) h))
+    (λ m edge h. step-in-reach spans m (edge .rising) (edge .duration) (reachable-in-reach (m .state) h))
+    (λ m h. total-after-reachable m (m .state) refl h)
+    (machine .fresh) edges refl

@@ -1,19 +1,18 @@
 -- Document 01, "Decoder steps", SBP.
 use Prim.Native.Nat.{ℕ, _+_, _^_}
 use mathlib.Core.Bool.{Bool, true, false, cond}
-use mathlib.Core.List.{List}
 use lib.Dec.{leb, ltb, eqb}
 use lib.Bits.{bitOr}
-use Rattle.spans.specs.Spans.{spansOf}
-use Rattle.spans.specs.Lookup.{lookupIn, placeOf}
+use Rattle.refusals.specs.Refusals as refusal
+use Rattle.spans.specs.declared.Spans.{Spans}
+use Rattle.spans.specs.declared.SpansAnswer.{SpansAnswer}
 use Rattle.commands.specs.Sbp.{unpackOf}
 use Rattle.commands.specs.declared.Command.the-variants as command
-use Rattle.reports.specs.Rule.{ruleReport, ruleAfter}
-use Rattle.reports.specs.Run.{Edge, runReports, runAfter}
+use Rattle.reports.specs.Edges.{Edge}
+use Rattle.reports.specs.Machine.{Machine, EventAnswer, TotalAnswer, sumStep}
 use Rattle.reports.specs.declared.Fault.the-variants as fault
 use Rattle.reports.specs.declared.Status.{Status}
 use Rattle.reports.specs.declared.Status.the-variants as status
-use Rattle.reports.specs.declared.Report.{Report}
 use Rattle.reports.specs.declared.Report.the-variants as report
 use Rattle.sbp.specs.declared.decoder.SbpState.{SbpState}
 use Rattle.sbp.specs.declared.decoder.SbpState.the-variants.{Init, Address, Divider, Command, Done, Error}
@@ -89,15 +88,13 @@ nextOf (Command n) place address bits saved = fromCommand n place address bits s
 nextOf Done place address bits saved = memoryOf Done address bits saved
 nextOf (Error fault) place address bits saved = memoryOf (Error fault) address bits saved
 
--- the same with another saved number
-abbrev pub kept : SbpMemory → ℕ → SbpMemory
-kept m saved = memoryOf (m .state) (m .address) (m .command) saved
+-- the same memory with another saved number
+abbrev pub withSaved : SbpMemory → ℕ → SbpMemory
+withSaved m saved = memoryOf (m .state) (m .address) (m .command) saved
 
--- "save the duration at a falling edge and look up saved + new at a rising edge. The sum is exact"
-unfoldable pub stepIn : List ℕ → List ℕ → SbpMemory → Bool → ℕ → SbpMemory
-stepIn low high m rising duration =
-    cond rising (nextOf (m .state) (placeOf (lookupIn low high (m .saved + duration))) (m .address) (m .command) (m .saved))
-    (kept m duration)
+-- "save the duration at a falling edge and look up saved + new at a rising edge"
+unfoldable pub stepIn : Spans → SbpMemory → Edge → SbpMemory
+stepIn = sumStep (λ m. m .saved) withSaved (λ m place. nextOf (m .state) place (m .address) (m .command) (m .saved))
 
 -- idle in Init, done in Done; an error is its own status
 abbrev pub statusOf : SbpState → Status
@@ -108,74 +105,43 @@ statusOf (Command n) = status.Receiving
 statusOf Done = status.Done
 statusOf (Error fault) = status.Error fault
 
--- what `event` answers after a step
-abbrev pub stood : SbpMemory → SbpEventIn
-stood m = record { status = statusOf (m .state); memory = m }
-
--- refusal 4: "the state as given" comes back
-abbrev pub refused : SbpMemory → SbpEventIn
-refused m = record { status = status.Refused 4; memory = m }
-
--- it "is tested at each edge"
-abbrev pub answered : SbpMemory → SbpMemory → SbpEventIn
-answered m after = cond (pastEnd (m .state)) (refused m) (stood after)
-
--- `event`
-unfoldable pub eventIn : List ℕ → List ℕ → SbpMemory → Bool → ℕ → SbpEventIn
-eventIn low high m rising duration = answered m (stepIn low high m rising duration)
-
--- "`command` answers in every state"
-abbrev pub commandOf : SbpMemory → Report
-commandOf m = report.Command (command.Sbp (unpackOf (m .address) (m .command)))
-
 -- a fresh memory
 abbrev pub fresh : SbpMemory
 fresh = memoryOf Init 0 0 0
 
--- reset clears the address, the command and the saved number
-abbrev pub resetOf : SbpMemory → SbpMemory
-resetOf m = fresh
+-- "`command` answers in every state"; reset clears the address, the command and the saved number
+abbrev pub machine : Machine
+machine =
+    record {
+      Memory = SbpMemory;
+      fresh = fresh;
+      refusal = λ m. cond (pastEnd (m .state)) refusal.pastEnd 0;
+      step = stepIn;
+      status = λ m. statusOf (m .state);
+      command = λ m. report.Command (command.Sbp (unpackOf (m .address) (m .command)));
+      reset = λ m. fresh;
+    }
 
--- `event_total`: the rule of `reports`, over event, command and reset
-abbrev pub ruled : SbpEventIn → SbpTotalIn
-ruled e = record { report = ruleReport commandOf (e .status) (e .memory); memory = ruleAfter resetOf (e .status) (e .memory) }
+-- ---- the machine's answers, as declared
 
-unfoldable pub totalIn : List ℕ → List ℕ → SbpMemory → Bool → ℕ → SbpTotalIn
-totalIn low high m rising duration = ruled (eventIn low high m rising duration)
+abbrev pub eventIn : EventAnswer SbpMemory → SbpEventIn
+eventIn a = record { status = a .status; memory = a .memory }
+
+abbrev pub totalIn : TotalAnswer SbpMemory → SbpTotalIn
+totalIn a = record { report = a .report; memory = a .memory }
+
+abbrev pub decoderOf : Spans → SbpMemory → SbpDecoder
+decoderOf spans memory = record { spans = spans; memory = memory }
+
+abbrev pub eventOf : Spans → EventAnswer SbpMemory → SbpEvent
+eventOf spans a = record { status = a .status; decoder = decoderOf spans (a .memory) }
+
+abbrev pub totalOf : Spans → TotalAnswer SbpMemory → SbpTotal
+totalOf spans a = record { report = a .report; decoder = decoderOf spans (a .memory) }
 
 -- "Every decoder carries its eight spans inside its own state". Refusal 1: the spans are then those of the refused answer
-abbrev pub newAt : ℕ → SbpMade
-newAt rate =
-    record { answer = spansOf 4 rate .answer; decoder = record { spans = spansOf 4 rate .spans; memory = fresh } }
-
-abbrev pub eventOf : SbpDecoder → Bool → ℕ → SbpEvent
-eventOf d rising duration =
-    let e = eventIn (d .spans .low) (d .spans .high) (d .memory) rising duration in
-    record { status = e .status; decoder = record { spans = d .spans; memory = e .memory } }
-
-abbrev pub commandIn : SbpDecoder → Report
-commandIn d = commandOf (d .memory)
-
-abbrev pub resetIn : SbpDecoder → SbpDecoder
-resetIn d = record { spans = d .spans; memory = resetOf (d .memory) }
-
-abbrev pub eventTotal : SbpDecoder → Bool → ℕ → SbpTotal
-eventTotal d rising duration =
-    let t = totalIn (d .spans .low) (d .spans .high) (d .memory) rising duration in
-    record { report = t .report; decoder = record { spans = d .spans; memory = t .memory } }
-
--- event_total over a run of edges: an edge's report, the decoder after it, all reports, and the decoder after them
-abbrev pub edgeReport : SbpDecoder → Edge → Report
-edgeReport d edge = eventTotal d (edge .rising) (edge .duration) .report
-
-abbrev pub edgeAfter : SbpDecoder → Edge → SbpDecoder
-edgeAfter d edge = eventTotal d (edge .rising) (edge .duration) .decoder
-
-abbrev pub reportsOf : SbpDecoder → List Edge → List Report
-reportsOf d edges = runReports edgeReport edgeAfter d edges
-
-abbrev pub decoderAfter : SbpDecoder → List Edge → SbpDecoder
-decoderAfter d edges = runAfter edgeAfter d edges
+abbrev pub madeOf : SpansAnswer → SbpMade
+madeOf made = record { answer = made .answer; decoder = decoderOf (made .spans) fresh }
 
 -- the states that a fresh decoder reaches through event_total: what ends a frame is reset at once
 abbrev pub reachable : SbpState → Bool

@@ -7,9 +7,13 @@ use reports::Status;
 use spans::Answer;
 use spans::Spans;
 ghost use mathlib.Core.Path.{_≡_};
-ghost use Prim.Native.Nat.{_≤_};
+ghost use Prim.Native.Nat.{_<_};
 ghost use Rattle.sbp.specs.declared.decoder.SbpState.the-variants.{Init, Error};
-ghost use Rattle.sbp.specs.Decoder.{pastEnd, memoryOf, fromInit, fromAddress, fromDivider, fromCommand, nextOf, kept, stood, refused, answered, fresh, eventIn, commandOf, resetOf, ruled, totalIn, newAt, eventOf, commandIn, resetIn, eventTotal};
+ghost use Rattle.refusals.specs.Refusals as refusal;
+ghost use Rattle.spans.specs.Spans.{ends, spansOf};
+ghost use Rattle.reports.specs.Edges.{edge};
+ghost use Rattle.reports.specs.Machine.{refused, eventAfter, answered, event, ruled, total};
+ghost use Rattle.sbp.specs.Decoder.{pastEnd, memoryOf, fromInit, fromAddress, fromDivider, fromCommand, nextOf, withSaved, machine, eventIn, totalIn, decoderOf, eventOf, totalOf, madeOf};
 
 pub enum SbpState {
     Init,
@@ -113,7 +117,7 @@ fn from_init(place: u32, address: u16, command: u32, saved: u32) -> SbpMemory
 }
 
 fn from_address(n: u16, place: u32, address: u16, command: u32, saved: u32) -> SbpMemory
-    requires { ⌜ n ≤ 14 ⌝ }
+    requires { ⌜ n < 15 ⌝ }
     ensures { λ r. ⌜ r ≡ fromAddress n place address command saved ⌝ }
 {
     match place {
@@ -174,7 +178,7 @@ fn from_divider(place: u32, address: u16, command: u32, saved: u32) -> SbpMemory
 }
 
 fn from_command(n: u16, place: u32, address: u16, command: u32, saved: u32) -> SbpMemory
-    requires { ⌜ n ≤ 18 ⌝ }
+    requires { ⌜ n < 19 ⌝ }
     ensures { λ r. ⌜ r ≡ fromCommand n place address command saved ⌝ }
 {
     match place {
@@ -220,8 +224,8 @@ fn from_last_command(place: u32, address: u16, command: u32, saved: u32) -> SbpM
 }
 
 // The same state, address and command with another saved number.
-fn kept(m: SbpMemory, saved: u32) -> SbpMemory
-    ensures { λ r. ⌜ r ≡ kept m saved ⌝ }
+fn with_saved(m: SbpMemory, saved: u32) -> SbpMemory
+    ensures { λ r. ⌜ r ≡ withSaved m saved ⌝ }
 {
     let state = m.state;
     let address = m.address;
@@ -256,8 +260,8 @@ fn kept(m: SbpMemory, saved: u32) -> SbpMemory
     }
 }
 
-fn stood(m: SbpMemory) -> SbpEventIn
-    ensures { λ r. ⌜ r ≡ stood m ⌝ }
+fn event_after(m: SbpMemory) -> SbpEventIn
+    ensures { λ r. ⌜ r ≡ eventIn (eventAfter machine m) ⌝ }
 {
     let state = m.state;
     match state {
@@ -289,75 +293,75 @@ fn stood(m: SbpMemory) -> SbpEventIn
 }
 
 fn refused(m: SbpMemory) -> SbpEventIn
-    ensures { λ r. ⌜ r ≡ refused m ⌝ }
+    ensures { λ r. ⌜ r ≡ eventIn (refused refusal.pastEnd m) ⌝ }
 {
     SbpEventIn {
-        status: Status::Refused(4),
+        status: Status::Refused(refusals::PAST_END),
         memory: m,
     }
 }
 
 // A pulse at a rising edge.
 fn next_of(m: SbpMemory, place: u32) -> SbpEventIn
-    ensures { λ r. ⌜ r ≡ answered m (nextOf (m .state) place (m .address) (m .command) (m .saved)) ⌝ }
+    ensures { λ r. ⌜ r ≡ eventIn (answered machine m (nextOf (m .state) place (m .address) (m .command) (m .saved))) ⌝ }
 {
     let state = m.state;
     match state {
-        SbpState::Init => stood(from_init(place, m.address, m.command, m.saved)),
+        SbpState::Init => event_after(from_init(place, m.address, m.command, m.saved)),
         SbpState::Address(n) => {
             if n < 15 {
-                stood(from_address(n, place, m.address, m.command, m.saved))
+                event_after(from_address(n, place, m.address, m.command, m.saved))
             } else if n == 15 {
-                stood(from_last_address(place, m.address, m.command, m.saved))
+                event_after(from_last_address(place, m.address, m.command, m.saved))
             } else {
                 refused(m)
             }
         }
-        SbpState::Divider => stood(from_divider(place, m.address, m.command, m.saved)),
+        SbpState::Divider => event_after(from_divider(place, m.address, m.command, m.saved)),
         SbpState::Command(n) => {
             if n < 19 {
-                stood(from_command(n, place, m.address, m.command, m.saved))
+                event_after(from_command(n, place, m.address, m.command, m.saved))
             } else if n == 19 {
-                stood(from_last_command(place, m.address, m.command, m.saved))
+                event_after(from_last_command(place, m.address, m.command, m.saved))
             } else {
                 refused(m)
             }
         }
-        SbpState::Done => stood(kept(m, m.saved)),
-        SbpState::Error(_) => stood(kept(m, m.saved)),
+        SbpState::Done => event_after(with_saved(m, m.saved)),
+        SbpState::Error(_) => event_after(with_saved(m, m.saved)),
     }
 }
 
 // A falling edge.
 fn save(m: SbpMemory, duration: u32) -> SbpEventIn
-    ensures { λ r. ⌜ r ≡ answered m (kept m duration) ⌝ }
+    ensures { λ r. ⌜ r ≡ eventIn (answered machine m (withSaved m duration)) ⌝ }
 {
     let state = m.state;
     match state {
-        SbpState::Init => stood(kept(m, duration)),
+        SbpState::Init => event_after(with_saved(m, duration)),
         SbpState::Address(n) => {
             if n <= 15 {
-                stood(kept(m, duration))
+                event_after(with_saved(m, duration))
             } else {
                 refused(m)
             }
         }
-        SbpState::Divider => stood(kept(m, duration)),
+        SbpState::Divider => event_after(with_saved(m, duration)),
         SbpState::Command(n) => {
             if n <= 19 {
-                stood(kept(m, duration))
+                event_after(with_saved(m, duration))
             } else {
                 refused(m)
             }
         }
-        SbpState::Done => stood(kept(m, duration)),
-        SbpState::Error(_) => stood(kept(m, duration)),
+        SbpState::Done => event_after(with_saved(m, duration)),
+        SbpState::Error(_) => event_after(with_saved(m, duration)),
     }
 }
 
 // What a new decoder remembers.
 pub fn fresh() -> SbpMemory
-    ensures { λ r. ⌜ r ≡ fresh ⌝ }
+    ensures { λ r. ⌜ r ≡ machine .fresh ⌝ }
 {
     SbpMemory {
         state: SbpState::Init,
@@ -375,7 +379,7 @@ pub fn event_in<'a>(
     rising: bool,
     duration: u32,
 ) -> SbpEventIn
-    ensures { λ r. ⌜ r ≡ eventIn (now (low .entry)) (now (high .entry)) m rising duration ⌝ }
+    ensures { λ r. ⌜ r ≡ eventIn (event machine (ends (now (low .entry)) (now (high .entry))) m (edge rising duration)) ⌝ }
 {
     if rising {
         let total = m.saved as u64 + duration as u64;
@@ -392,31 +396,31 @@ pub fn event_in<'a>(
 }
 
 // In every state.
-pub fn command_of(m: SbpMemory) -> Report
-    ensures { λ r. ⌜ r ≡ commandOf m ⌝ }
+pub fn command_in(m: SbpMemory) -> Report
+    ensures { λ r. ⌜ r ≡ machine .command m ⌝ }
 {
     Report::Command(Command::Sbp(SbpCommand::unpack(m.address, m.command)))
 }
 
 // All that was gathered is cleared.
-pub fn reset_of(m: SbpMemory) -> SbpMemory
-    ensures { λ r. ⌜ r ≡ resetOf m ⌝ }
+pub fn reset_in(m: SbpMemory) -> SbpMemory
+    ensures { λ r. ⌜ r ≡ machine .reset m ⌝ }
 {
     fresh()
 }
 
 // The rule of `reports` over what event_in answers. What is kept is made anew, so that it stays in registers.
 fn ruled(event: SbpEventIn) -> SbpTotalIn
-    ensures { λ r. ⌜ r ≡ ruled event ⌝ }
+    ensures { λ r. ⌜ r ≡ totalIn (ruled machine (event .status) (event .memory)) ⌝ }
 {
     let status = event.status;
     let after = event.memory;
-    let report = reports::report_of(status, command_of(after));
+    let report = reports::report_of(status, command_in(after));
     if reports::resets(status) {
-        let memory = reset_of(after);
+        let memory = reset_in(after);
         SbpTotalIn { report, memory }
     } else {
-        let memory = kept(after, after.saved);
+        let memory = with_saved(after, after.saved);
         SbpTotalIn { report, memory }
     }
 }
@@ -428,7 +432,7 @@ pub fn total_in<'a>(
     rising: bool,
     duration: u32,
 ) -> SbpTotalIn
-    ensures { λ r. ⌜ r ≡ totalIn (now (low .entry)) (now (high .entry)) m rising duration ⌝ }
+    ensures { λ r. ⌜ r ≡ totalIn (total machine (ends (now (low .entry)) (now (high .entry))) m (edge rising duration)) ⌝ }
 {
     ruled(event_in(low, high, m, rising, duration))
 }
@@ -436,7 +440,7 @@ pub fn total_in<'a>(
 impl SbpDecoder {
     // Refusal 1; the decoder then has the spans of the refused answer.
     pub fn new(rate: u32) -> SbpMade
-        ensures { λ r. ⌜ r ≡ newAt rate ⌝ }
+        ensures { λ r. ⌜ r ≡ madeOf (spansOf 4 rate) ⌝ }
     {
         let made = spans::spans_of(4, rate);
         let answer = made.answer;
@@ -450,7 +454,7 @@ impl SbpDecoder {
 
     // Refusal 4.
     pub fn event(self, rising: bool, duration: u32) -> SbpEvent
-        ensures { λ r. ⌜ r ≡ eventOf self rising duration ⌝ }
+        ensures { λ r. ⌜ r ≡ eventOf (self .spans) (event machine (self .spans) (self .memory) (edge rising duration)) ⌝ }
     {
         let spans = self.spans;
         let memory = self.memory;
@@ -467,18 +471,18 @@ impl SbpDecoder {
     }
 
     pub fn command(self) -> Report
-        ensures { λ r. ⌜ r ≡ commandIn self ⌝ }
+        ensures { λ r. ⌜ r ≡ machine .command (self .memory) ⌝ }
     {
         let memory = self.memory;
-        command_of(memory)
+        command_in(memory)
     }
 
     pub fn reset(self) -> SbpDecoder
-        ensures { λ r. ⌜ r ≡ resetIn self ⌝ }
+        ensures { λ r. ⌜ r ≡ decoderOf (self .spans) (machine .reset (self .memory)) ⌝ }
     {
         let spans = self.spans;
         let memory = self.memory;
-        let after = reset_of(memory);
+        let after = reset_in(memory);
         SbpDecoder {
             spans,
             memory: after,
@@ -487,7 +491,7 @@ impl SbpDecoder {
 
     // Refusal 4.
     pub fn event_total(self, rising: bool, duration: u32) -> SbpTotal
-        ensures { λ r. ⌜ r ≡ eventTotal self rising duration ⌝ }
+        ensures { λ r. ⌜ r ≡ totalOf (self .spans) (total machine (self .spans) (self .memory) (edge rising duration)) ⌝ }
     {
         let spans = self.spans;
         let memory = self.memory;

@@ -4,16 +4,16 @@ use frames::Encoded;
 use spans::Answer;
 ghost use mathlib.Core.Path.{_≡_};
 ghost use Rattle.frames.specs.Frames.{encodedNumber};
-ghost use Rattle.receiver.specs.Encoder.{frameBy, encodedBy, leftBy};
+ghost use Rattle.protocols.specs.Encoder.{frameBy, encodedBy, leftBy};
 ghost use Rattle.seat.specs.Seat.{lengthAfter, lookupNumber, placeAfter};
 
 fn encoded_number(encoded: Encoded) -> u32
     ensures { λ r. ⌜ r ≡ encodedNumber encoded ⌝ }
 {
     match encoded {
-        Encoded::Wrote(_) => 0,
+        Encoded::Wrote(_) => refusals::NONE,
         Encoded::Refused(number) => number,
-        Encoded::Short(_) => 3,
+        Encoded::Short(_) => refusals::SHORT_BUFFER,
     }
 }
 
@@ -34,7 +34,7 @@ pub extern "C" fn seat_encode(
     ensures length { λ _. ⌜ now (length .exit) ≡ lengthAfter (encodedBy protocol rate (now (frame .entry)) (frameBy protocol rate addr cmd start toggle)) (now (length .entry)) ⌝ }
     ensures left { λ _. ⌜ now (frame .exit) ≡ leftBy protocol rate (now (frame .entry)) (frameBy protocol rate addr cmd start toggle) ⌝ }
 {
-    let encoded = receiver::encoder::encode(protocol, rate, addr, cmd, start, toggle, frame);
+    let encoded = protocols::encoder::encode_by(protocol, rate, addr, cmd, start, toggle, frame);
     if let Encoded::Refused(number) = encoded {
         return number;
     }
@@ -56,5 +56,5 @@ pub extern "C" fn seat_lookup(protocol: u32, rate: u32, duration: u64, place: &m
         return number;
     }
     *place = spans::place_of(spans::lookup(spans, duration));
-    0
+    refusals::NONE
 }

@@ -4,15 +4,16 @@ use mathlib.Core.Bool.{Bool, true, false, cond}
 use mathlib.Core.List.{[], _∷_}
 use Rattle.reports.specs.declared.Report.{Report}
 use Rattle.reports.specs.declared.Report.the-variants as report
-use Rattle.receiver.specs.Decoder.{eventOf, eventTotal, commandIn, resetIn}
-use Rattle.receiver.specs.declared.decoder.Decoder.{Decoder}
+use Rattle.reports.specs.Edges.{edge}
+use Rattle.protocols.specs.Decoder.{machine, decoderOf, edgeEvent, edgeTotal}
+use Rattle.protocols.specs.declared.decoder.Decoder.{Decoder}
 use Rattle.polled.specs.Polled.{polledAt, pollOf, idled}
 use Rattle.polled.specs.declared.Polled.{Polled}
 use Rattle.polled.specs.declared.PolledMade.{PolledMade}
-use Rattle.answers.specs.Answers.{word, textOf, statusSaid, reportSaid, answerSaid, isTaken, notOpen}
-use Rattle.answers.specs.declared.Said.{Said}
+use Rattle.answers.specs.Answers.{word, textOf, statusPhrase, reportPhrase, answerPhrase, isTaken, notOpen}
+use Rattle.answers.specs.declared.Phrase.{Phrase}
 use Rattle.slots.specs.declared.Slot.{Slot}
-use Rattle.slots.specs.declared.Done.{Done}
+use Rattle.slots.specs.declared.SlotAnswer.{SlotAnswer}
 use Rattle.slots.specs.declared.Head.{Head}
 use Rattle.slots.specs.declared.PollRun.{PollRun}
 use Rattle.slots.specs.declared.Ask.{Ask}
@@ -23,36 +24,36 @@ abbrev pub closedSlot : Slot
 closedSlot = record { is_open = false; receiver = polledAt 1 1000000 .receiver }
 
 -- an open slot that holds a receiver, and what is answered
-abbrev pub heldBy : Said → Polled → Done
-heldBy said receiver = record { said = said; slot = record { is_open = true; receiver = receiver } }
+abbrev pub heldBy : Phrase → Polled → SlotAnswer
+heldBy phrase receiver = record { phrase = phrase; slot = record { is_open = true; receiver = receiver } }
 
 abbrev pub withDecoder : Polled → Decoder → Polled
-withDecoder p decoder = record { decoder = decoder; clock = p .clock; edge = p .edge; level = p .level }
+withDecoder p decoder = record { decoder = decoder; clock = p .clock; «last_edge» = p .«last_edge»; level = p .level }
 
 -- `open` and `polled`: a fresh receiver; refused, the slot as it was
-abbrev pub openedBy : Slot → PolledMade → Done
+abbrev pub openedBy : Slot → PolledMade → SlotAnswer
 openedBy slot made =
-    cond (isTaken (made .answer)) (heldBy (answerSaid (made .answer)) (made .receiver))
-    (record { said = answerSaid (made .answer); slot = slot })
+    cond (isTaken (made .answer)) (heldBy (answerPhrase (made .answer)) (made .receiver))
+    (record { phrase = answerPhrase (made .answer); slot = slot })
 
-abbrev pub openedAt : Slot → ℕ → ℕ → Done
+abbrev pub openedAt : Slot → ℕ → ℕ → SlotAnswer
 openedAt slot protocol rate = openedBy slot (polledAt protocol rate)
 
-abbrev pub eventAt : Polled → Bool → ℕ → Done
+abbrev pub eventAt : Polled → Bool → ℕ → SlotAnswer
 eventAt p rising duration =
-    let e = eventOf (p .decoder) rising duration in
-    heldBy (statusSaid (e .status)) (withDecoder p (e .decoder))
+    let e = edgeEvent (p .decoder) (edge rising duration) in
+    heldBy (statusPhrase (e .status)) (withDecoder p (e .decoder))
 
-abbrev pub totalAt : Polled → Bool → ℕ → Done
+abbrev pub totalAt : Polled → Bool → ℕ → SlotAnswer
 totalAt p rising duration =
-    let t = eventTotal (p .decoder) rising duration in
-    heldBy (reportSaid (t .report)) (withDecoder p (t .decoder))
+    let t = edgeTotal (p .decoder) (edge rising duration) in
+    heldBy (reportPhrase (t .report)) (withDecoder p (t .decoder))
 
-abbrev pub commandAt : Polled → Done
-commandAt p = heldBy (reportSaid (commandIn (p .decoder))) p
+abbrev pub commandAt : Polled → SlotAnswer
+commandAt p = heldBy (reportPhrase (machine .command (p .decoder .memory))) p
 
-abbrev pub resetAt : Polled → Done
-resetAt p = heldBy (textOf (word ("r" ∷ "e" ∷ "s" ∷ "e" ∷ "t" ∷ [])) 0) (withDecoder p (resetIn (p .decoder)))
+abbrev pub resetAt : Polled → SlotAnswer
+resetAt p = heldBy (textOf (word ("r" ∷ "e" ∷ "s" ∷ "e" ∷ "t" ∷ [])) 0) (withDecoder p (decoderOf (p .decoder .spans) (machine .reset (p .decoder .memory))))
 
 abbrev pub firstOf : Report → Report → Report
 firstOf report.Nothing next = next
@@ -74,17 +75,17 @@ abbrev pub started : Polled → PollRun
 started p = record { report = report.Nothing; receiver = p }
 
 -- the first report that is not nothing, or nothing
-abbrev pub pollsAt : Polled → Bool → ℕ → Done
+abbrev pub pollsAt : Polled → Bool → ℕ → SlotAnswer
 pollsAt p level count =
     let run = runs count (started p) level in
-    heldBy (reportSaid (run .report)) (run .receiver)
+    heldBy (reportPhrase (run .report)) (run .receiver)
 
 -- so many polls of an unchanged level
-abbrev pub idleAt : Polled → ℕ → Done
+abbrev pub idleAt : Polled → ℕ → SlotAnswer
 idleAt p count = heldBy (textOf (word ("i" ∷ "d" ∷ "l" ∷ "e" ∷ [])) 0) (idled p count)
 
 -- a call on an open slot; the number is a duration or a count
-abbrev pub askedIn : Ask → Polled → Bool → ℕ → Done
+abbrev pub askedIn : Ask → Polled → Bool → ℕ → SlotAnswer
 askedIn ask.Event p level number = eventAt p level number
 askedIn ask.Total p level number = totalAt p level number
 askedIn ask.Command p level number = commandAt p
@@ -92,12 +93,12 @@ askedIn ask.Reset p level number = resetAt p
 askedIn ask.Poll p level number = pollsAt p level number
 askedIn ask.Idle p level number = idleAt p number
 
-abbrev pub askedAt : Ask → Slot → Bool → ℕ → Done
+abbrev pub askedAt : Ask → Slot → Bool → ℕ → SlotAnswer
 askedAt ask slot level number =
-    cond (slot .is_open) (askedIn ask (slot .receiver) level number) (record { said = notOpen; slot = slot })
+    cond (slot .is_open) (askedIn ask (slot .receiver) level number) (record { phrase = notOpen; slot = slot })
 
 -- what an edge answers before its report: the status of the step, and the command after it
 abbrev pub headOf : Slot → Bool → ℕ → Head
 headOf slot rising duration =
     let stepped = askedAt ask.Event slot rising duration in
-    record { status = stepped .said; command = askedAt ask.Command (stepped .slot) rising duration .said }
+    record { status = stepped .phrase; command = askedAt ask.Command (stepped .slot) rising duration .phrase }

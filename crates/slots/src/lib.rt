@@ -1,5 +1,5 @@
 // A slot that holds a polled receiver or only its decoder, and what the calls on it do and answer.
-use answers::Said;
+use answers::Phrase;
 use answers::is_taken;
 use answers::not_open;
 use answers::of_answer;
@@ -9,7 +9,7 @@ use answers::text;
 use polled::Polled;
 use polled::PolledMade;
 use polled::poll_through;
-use receiver::decoder::Decoder;
+use protocols::decoder::Decoder;
 use reports::Report;
 ghost use mathlib.Core.Path.{_≡_};
 ghost use Rattle.slots.specs.Slots.{closedSlot, heldBy, withDecoder, openedBy, openedAt, eventAt, totalAt, commandAt, resetAt, firstOf, polledAgain, runs, pollsAt, idleAt, askedIn, askedAt, headOf};
@@ -20,16 +20,16 @@ pub struct Slot {
     pub receiver: Polled,
 }
 
-// A slot after a call, and what the call answers.
-pub struct Done {
-    pub said: Said,
+// What a call on a slot answers, and the slot after it.
+pub struct SlotAnswer {
+    pub phrase: Phrase,
     pub slot: Slot,
 }
 
 // What an edge answers before its report.
 pub struct Head {
-    pub status: Said,
-    pub command: Said,
+    pub status: Phrase,
+    pub command: Phrase,
 }
 
 // The calls on an open slot.
@@ -59,11 +59,11 @@ pub fn closed() -> Slot
     }
 }
 
-fn held_by(said: Said, receiver: Polled) -> Done
-    ensures { λ r. ⌜ r ≡ heldBy said receiver ⌝ }
+fn held_by(phrase: Phrase, receiver: Polled) -> SlotAnswer
+    ensures { λ r. ⌜ r ≡ heldBy phrase receiver ⌝ }
 {
-    Done {
-        said,
+    SlotAnswer {
+        phrase,
         slot: Slot {
             is_open: true,
             receiver,
@@ -77,31 +77,31 @@ fn with_decoder(receiver: Polled, decoder: Decoder) -> Polled
     Polled {
         decoder,
         clock: receiver.clock,
-        edge: receiver.edge,
+        last_edge: receiver.last_edge,
         level: receiver.level,
     }
 }
 
 // A refused open leaves the slot as it was.
-fn opened_by(slot: Slot, made: PolledMade) -> Done
+fn opened_by(slot: Slot, made: PolledMade) -> SlotAnswer
     ensures { λ r. ⌜ r ≡ openedBy slot made ⌝ }
 {
     let answer = made.answer;
     let receiver = made.receiver;
-    let said = of_answer(answer);
+    let phrase = of_answer(answer);
     if is_taken(answer) {
-        return held_by(said, receiver);
+        return held_by(phrase, receiver);
     }
-    Done { said, slot }
+    SlotAnswer { phrase, slot }
 }
 
-pub fn opened(slot: Slot, protocol: u32, rate: u32) -> Done
+pub fn opened(slot: Slot, protocol: u32, rate: u32) -> SlotAnswer
     ensures { λ r. ⌜ r ≡ openedAt slot protocol rate ⌝ }
 {
     opened_by(slot, Polled::new(protocol, rate))
 }
 
-fn event(receiver: Polled, rising: bool, duration: u32) -> Done
+fn event(receiver: Polled, rising: bool, duration: u32) -> SlotAnswer
     ensures { λ r. ⌜ r ≡ eventAt receiver rising duration ⌝ }
 {
     let decoder = receiver.decoder;
@@ -111,7 +111,7 @@ fn event(receiver: Polled, rising: bool, duration: u32) -> Done
     held_by(of_status(status), with_decoder(receiver, after))
 }
 
-fn total(receiver: Polled, rising: bool, duration: u32) -> Done
+fn total(receiver: Polled, rising: bool, duration: u32) -> SlotAnswer
     ensures { λ r. ⌜ r ≡ totalAt receiver rising duration ⌝ }
 {
     let decoder = receiver.decoder;
@@ -121,14 +121,14 @@ fn total(receiver: Polled, rising: bool, duration: u32) -> Done
     held_by(of_report(report), with_decoder(receiver, after))
 }
 
-fn command(receiver: Polled) -> Done
+fn command(receiver: Polled) -> SlotAnswer
     ensures { λ r. ⌜ r ≡ commandAt receiver ⌝ }
 {
     let decoder = receiver.decoder;
     held_by(of_report(decoder.command()), receiver)
 }
 
-fn reset(receiver: Polled) -> Done
+fn reset(receiver: Polled) -> SlotAnswer
     ensures { λ r. ⌜ r ≡ resetAt receiver ⌝ }
 {
     let decoder = receiver.decoder;
@@ -177,7 +177,7 @@ fn run_of(start: PollRun, level: bool, count: u32) -> PollRun
     run
 }
 
-fn polls(receiver: Polled, level: bool, count: u32) -> Done
+fn polls(receiver: Polled, level: bool, count: u32) -> SlotAnswer
     ensures { λ r. ⌜ r ≡ pollsAt receiver level count ⌝ }
 {
     let start = PollRun {
@@ -191,7 +191,7 @@ fn polls(receiver: Polled, level: bool, count: u32) -> Done
 }
 
 // Polls of an unchanged level move only the clock: it is put forward at once.
-fn idle(receiver: Polled, count: u32) -> Done
+fn idle(receiver: Polled, count: u32) -> SlotAnswer
     ensures { λ r. ⌜ r ≡ idleAt receiver count ⌝ }
 {
     let mut after = receiver;
@@ -200,7 +200,7 @@ fn idle(receiver: Polled, count: u32) -> Done
     held_by(text(0x69646C65, 0), after)
 }
 
-fn asked_in(ask: Ask, receiver: Polled, level: bool, number: u32) -> Done
+fn asked_in(ask: Ask, receiver: Polled, level: bool, number: u32) -> SlotAnswer
     ensures { λ r. ⌜ r ≡ askedIn ask receiver level number ⌝ }
 {
     match ask {
@@ -214,15 +214,15 @@ fn asked_in(ask: Ask, receiver: Polled, level: bool, number: u32) -> Done
 }
 
 // The number is a duration, or a count of polls.
-pub fn asked(ask: Ask, slot: Slot, level: bool, number: u32) -> Done
+pub fn asked(ask: Ask, slot: Slot, level: bool, number: u32) -> SlotAnswer
     ensures { λ r. ⌜ r ≡ askedAt ask slot level number ⌝ }
 {
     if slot.is_open {
         let receiver = slot.receiver;
         return asked_in(ask, receiver, level, number);
     }
-    Done {
-        said: not_open(),
+    SlotAnswer {
+        phrase: not_open(),
         slot,
     }
 }
@@ -232,9 +232,9 @@ pub fn head_of(slot: Slot, rising: bool, duration: u32) -> Head
     ensures { λ r. ⌜ r ≡ headOf slot rising duration ⌝ }
 {
     let stepped = asked(Ask::Event, slot, rising, duration);
-    let status = stepped.said;
+    let status = stepped.phrase;
     let after = stepped.slot;
-    let told = asked(Ask::Command, after, rising, duration);
-    let command = told.said;
+    let answer = asked(Ask::Command, after, rising, duration);
+    let command = answer.phrase;
     Head { status, command }
 }

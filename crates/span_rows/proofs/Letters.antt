@@ -1,8 +1,7 @@
 -- The letters of the numbers by which the fixed texts are put. Assumes nothing.
 use mathlib.Core.Path.{_≡_, refl}
 use mathlib.Core.List.{[], _∷_}
-use Rattle.text.specs.Text.{letters, chars}
-use Rattle.text.proofs.Shown.{shown}
+use Rattle.text.specs.Text.{shown, letters, chars}
 
 pub blanks : shown (letters 8 0x2020202020202020) ≡ chars (" " ∷ " " ∷ " " ∷ " " ∷ " " ∷ " " ∷ " " ∷ " " ∷ [])
 unfolding letters

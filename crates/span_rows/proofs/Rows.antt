@@ -4,7 +4,7 @@ use mathlib.Core.Path.{_≡_, ap, _∙_}
 use mathlib.Core.List.{List, [], _++_}
 use native.Mathlib.Omega.{arith}
 use Rattle.text.specs.Text.{putsOf}
-use Rattle.text.proofs.Puts.{Put, behind-text, told}
+use Rattle.text.proofs.Puts.{Put, after-text}
 use Rattle.span_rows.specs.SpanRows.{spanRowText, spanRowsFrom}
 
 module _ (rate place : ℕ) where
@@ -14,7 +14,7 @@ module _ (rate place : ℕ) where
       let e : suc (8 - (place + 1)) ≡ 8 - place = omega arith in
       ap (λ (n : ℕ). spanRowsFrom n rate place) e
 
-  no-rows : 8 ≤ place → [] ≡ spanRowsFrom (8 - place) rate place
+  pub no-rows : 8 ≤ place → [] ≡ spanRowsFrom (8 - place) rate place
   unfolding spanRowsFrom
   no-rows h =
       let e : 0 ≡ 8 - place = omega arith in
@@ -26,13 +26,6 @@ pub row-put
     → putsOf text next (spanRowsFrom (8 - place) rate place) ≡ whole → Put text next (spanRowText rate place) left after
     → putsOf left after (spanRowsFrom (8 - (place + 1)) rate (place + 1)) ≡ whole
 row-put text next left after whole rate place h inv p =
-    behind-text text next left after (spanRowsFrom (8 - (place + 1)) rate (place + 1)) (spanRowText rate place) p
+    after-text text next left after (spanRowsFrom (8 - (place + 1)) rate (place + 1)) (spanRowText rate place) p
     ∙ ap (λ (bs : List ℕ). putsOf text next bs) (rows-next rate place h)
     ∙ inv
-
--- nothing is left to put
-pub rows-put
-    : (text : List ℕ) (at : ℕ) (bs left : List ℕ) (next rate place : ℕ) → 8 ≤ place
-    → putsOf left next (spanRowsFrom (8 - place) rate place) ≡ putsOf text at bs → Put text at bs left next
-rows-put text at bs left next rate place h inv =
-    told text at bs left next (ap (λ (cs : List ℕ). putsOf left next cs) (no-rows rate place h) ∙ inv)

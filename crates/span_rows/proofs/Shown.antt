@@ -3,8 +3,7 @@ use mathlib.Core.Path.{_≡_, refl}
 use mathlib.Core.List.{[], _∷_}
 use Rattle.spans.specs.Spans.{spansOf, spansAt}
 use Rattle.spans.specs.Lookup.{lowestFrom}
-use Rattle.text.specs.Text.{chars, digitsOf, rightText}
-use Rattle.text.proofs.Shown.{shown}
+use Rattle.text.specs.Text.{shown, chars, digitsOf, rightText}
 use Rattle.span_rows.specs.SpanRows.{columnsText, endsText, foundText, placeText}
 
 -- NEC's span at place 0

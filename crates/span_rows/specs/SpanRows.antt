@@ -7,7 +7,7 @@ use Rattle.spans.specs.Lookup.{lookupOf}
 use Rattle.spans.specs.declared.Span.{Span}
 use Rattle.spans.specs.declared.Spans.{Spans}
 use Rattle.spans.specs.declared.Found.{Found}
-use Rattle.spans.specs.declared.Found.the-variants.{At, Nothing}
+use Rattle.spans.specs.declared.Found.the-variants.{At, None}
 use Rattle.text.specs.Text.{chars, rightText}
 
 -- the span at a place
@@ -40,7 +40,7 @@ spanRowsText rate = spanRowsFrom 8 rate 0
 -- what a lookup finds: the place or none, at the right of a column of 16
 unfoldable pub foundText : Found → List ℕ
 foundText (At place) = rightText 16 place
-foundText Nothing =
+foundText None =
     chars (" " ∷ " " ∷ " " ∷ " " ∷ " " ∷ " " ∷ " " ∷ " " ∷ [])
     ++ chars (" " ∷ " " ∷ " " ∷ " " ∷ "n" ∷ "o" ∷ "n" ∷ "e" ∷ [])
 

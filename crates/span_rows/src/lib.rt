@@ -87,7 +87,7 @@ fn put_found(text: &mut [u8], at: usize, found: Found) -> usize
 {
     match found {
         Found::At(place) => put_right(text, at, 16, place as u64),
-        Found::Nothing => {
+        Found::None => {
             // twelve blanks, and none
             let next = put_letters(text, at, 0x2020202020202020);
             put_letters(text, next, 0x202020206E6F6E65)

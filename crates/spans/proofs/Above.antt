@@ -6,23 +6,23 @@ use Prim.Native.Nat.{ℕ, zero, suc, _+_, _-_, _^_, _≤_, _<_}
 use native.Mathlib.Nat.{mul-le-mul}
 use native.Mathlib.Omega.{arith}
 use lib.ListN.{getD}
-use Rattle.spans.specs.Tables.{lengths, percents, lengthAt, percentAt}
-use Rattle.spans.specs.Spans.{baseOf, marginOf, spanAt, eight, rateTaken, protocolTaken, spansAt, refused, spansOf}
+use Rattle.spans.specs.Tables.{lengths, percents, lengthAt}
+use Rattle.spans.specs.Spans.{baseOf, spanAt, eight, spansAt, refused, spansOf}
 use Rattle.spans.specs.Lookup.{lookupOf}
 use Rattle.spans.specs.declared.Answer.the-variants.{Taken}
 use Rattle.spans.specs.declared.Spans.{Spans}
-use Rattle.spans.specs.declared.SpansAnswer.{SpansAnswer}
-use Rattle.spans.specs.declared.Found.the-variants.{Nothing}
+use Rattle.spans.specs.declared.Found.the-variants.{None}
 use Rattle.spans.proofs.Entries.{entry-le}
 use Rattle.spans.proofs.Places.{above-none}
-use Rattle.spans.proofs.Within.{within-true}
+use Rattle.refusals.specs.Refusals.{rateTaken, protocolTaken}
+use Rattle.refusals.proofs.Within.{within-true}
 
 -- every high end fits 32 bits
 abbrev pub Fit32 : Spans → Type 0
 Fit32 spans = (place : ℕ) → getD (spans .high) place 0 < 2 ^ 32
 
-pub sum-above-none : (spans : Spans) → Fit32 spans → (saved new : ℕ) → 2 ^ 32 ≤ saved + new → lookupOf spans (saved + new) ≡ Nothing
-sum-above-none spans fit saved new above = above-none (spans .low) (spans .high) (saved + new) (λ place. omega (arith, fit place, above))
+pub sum-above-none : (spans : Spans) → Fit32 spans → (saved new : ℕ) → 2 ^ 32 ≤ saved + new → lookupOf spans (saved + new) ≡ None
+sum-above-none spans fit saved new above = above-none spans (saved + new) (λ place. omega (arith, fit place, above))
 
 -- ---- spans that are built
 
@@ -54,5 +54,5 @@ built-fits protocol rate = go (protocolTaken protocol) (rateTaken rate) refl
     go true false e = eight-fit (λ place. 0) (λ place. omega arith)
     go false rated e = eight-fit (λ place. 0) (λ place. omega arith)
 
-pub built-above-none : (protocol rate saved new : ℕ) → 2 ^ 32 ≤ saved + new → lookupOf (spansOf protocol rate .spans) (saved + new) ≡ Nothing
+pub built-above-none : (protocol rate saved new : ℕ) → 2 ^ 32 ≤ saved + new → lookupOf (spansOf protocol rate .spans) (saved + new) ≡ None
 built-above-none protocol rate = sum-above-none (spansOf protocol rate .spans) (built-fits protocol rate)

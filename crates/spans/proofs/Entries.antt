@@ -8,7 +8,7 @@ use lib.Dec.{leb}
 use borrow.Author.Tests.{leb-true}
 use lib.ListN.{getD}
 use Rattle.spans.specs.Tables.{entry}
-use Rattle.spans.proofs.Within.{both-left, both-right}
+use Rattle.refusals.proofs.Within.{both-left, both-right}
 
 abbrev rowLe : ℕ → List ℕ → Bool
 rowLe m [] = true

@@ -1,5 +1,4 @@
 pub mod Entries
-pub mod Within
 pub mod Determined
 pub mod Places
 pub mod Above

@@ -7,7 +7,7 @@ use Prim.Native.Nat.{ℕ, _*_, _^_, _≤_, _<_}
 use native.Mathlib.Omega.{arith}
 use Rattle.spans.specs.declared.Span.{Span}
 use Rattle.spans.specs.declared.Found.{Found}
-use Rattle.spans.specs.declared.Found.the-variants.{At, Nothing}
+use Rattle.spans.specs.declared.Found.the-variants.{At, None}
 use Rattle.spans.specs.Spans.{spanAt, spansAt, spansOf}
 use Rattle.spans.specs.Lookup.{lookupOf, lowestFrom}
 use Rattle.spans.proofs.Places.{placeAt, allRead, reads-place}
@@ -43,7 +43,7 @@ abbrev pub reads : ℕ → ℕ → Found
 reads protocol duration = lookupOf (spansAt protocol 1000000) duration
 
 -- "NEC total 1063 is invalid; 1064 and 1176 are zero; 1177 is invalid"
-pub nec-1063 : reads 1 1063 ≡ Nothing
+pub nec-1063 : reads 1 1063 ≡ None
 unfolding spansAt lowestFrom
 nec-1063 = refl
 
@@ -55,7 +55,7 @@ pub nec-1176 : reads 1 1176 ≡ At 2
 unfolding spansAt lowestFrom
 nec-1176 = refl
 
-pub nec-1177 : reads 1 1177 ≡ Nothing
+pub nec-1177 : reads 1 1177 ≡ None
 unfolding spansAt lowestFrom
 nec-1177 = refl
 

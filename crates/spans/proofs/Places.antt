@@ -2,17 +2,18 @@
 -- The lookup follows the test place by place. And a duration above every high end reads none. No place is above 8. Assumes nothing.
 use mathlib.Core.Path.{_≡_, refl, ap, _∙_}
 use mathlib.Core.Bool.{Bool, true, false, cond, _&&_, _||_}
-use mathlib.Core.List.{List}
 use Prim.Native.Nat.{ℕ, zero, suc, _+_, _≤_, _<_}
 use native.Mathlib.Nat.{zero-add}
 use native.Mathlib.Omega.{arith}
 use lib.Dec.{T, leb, ltb, ltb→lt, leb→le}
 use lib.ListN.{getD}
 use borrow.Author.Tests.{le-leb, lt-leb, ltb-true}
-use Rattle.spans.specs.Spans.{within, spansOf}
-use Rattle.spans.specs.Lookup.{holds, lowestFrom, lookupIn, placeOf}
+use Rattle.refusals.specs.Refusals.{within}
+use Rattle.spans.specs.Spans.{spansOf}
+use Rattle.spans.specs.Lookup.{holds, lowestFrom, lookupOf, placeOf}
+use Rattle.spans.specs.declared.Spans.{Spans}
 use Rattle.spans.specs.declared.Found.{Found}
-use Rattle.spans.specs.declared.Found.the-variants.{At, Nothing}
+use Rattle.spans.specs.declared.Found.the-variants.{At, None}
 
 and-false : (x : Bool) → (x && false) ≡ false
 and-false true = refl
@@ -44,50 +45,50 @@ outside low high least most duration t h k = go (ltb most low) refl t
     go true e t = below low high duration (omega (arith, ltb-true most low e))
     go false e t = above low high duration (omega (arith, ltb→lt high least t))
 
-module _ (low high : List ℕ) where
+module _ (spans : Spans) where
   -- of the next `left` places from `place` on, every duration of the range reads the one that is `on` further
   unfoldable pub allRead : (left place on : ℕ) → (least most : ℕ) → Bool
   allRead zero place on least most = false
-  allRead (suc left) place zero least most = leb (getD low place 0) least && leb most (getD high place 0)
-  allRead (suc left) place (suc on) least most = apart (getD low place 0) (getD high place 0) least most && allRead left (place + 1) on least most
+  allRead (suc left) place zero least most = leb (getD (spans .low) place 0) least && leb most (getD (spans .high) place 0)
+  allRead (suc left) place (suc on) least most = apart (getD (spans .low) place 0) (getD (spans .high) place 0) least most && allRead left (place + 1) on least most
 
   -- no duration of at least `least` reads any of them
   unfoldable pub noneReads : (left place : ℕ) → (least : ℕ) → Bool
   noneReads zero place least = true
-  noneReads (suc left) place least = ltb (getD high place 0) least && noneReads left (place + 1) least
+  noneReads (suc left) place least = ltb (getD (spans .high) place 0) least && noneReads left (place + 1) least
 
   module _ (least most duration : ℕ) (from : least ≤ duration) (to : duration ≤ most) where
-    reads-lowest : (left place on : ℕ) → T (allRead left place on least most) → lowestFrom low high duration left place ≡ At (place + on)
+    reads-lowest : (left place on : ℕ) → T (allRead left place on least most) → lowestFrom spans duration left place ≡ At (place + on)
     unfolding allRead lowestFrom
     reads-lowest zero place on t = absurd t
     reads-lowest (suc left) place zero t =
-        let (a, b) = both (leb (getD low place 0) least) (leb most (getD high place 0)) t in
+        let (a, b) = both (leb (getD (spans .low) place 0) least) (leb most (getD (spans .high) place 0)) t in
         let same : place ≡ place + 0 = omega arith in
-        rw (inside (getD low place 0) (getD high place 0) duration (omega (arith, leb→le (getD low place 0) least a)) (omega (arith, leb→le most (getD high place 0) b)))
+        rw (inside (getD (spans .low) place 0) (getD (spans .high) place 0) duration (omega (arith, leb→le (getD (spans .low) place 0) least a)) (omega (arith, leb→le most (getD (spans .high) place 0) b)))
         (ap At same)
     reads-lowest (suc left) place (suc on) t =
-        let (a, b) = both (apart (getD low place 0) (getD high place 0) least most) (allRead left (place + 1) on least most) t in
+        let (a, b) = both (apart (getD (spans .low) place 0) (getD (spans .high) place 0) least most) (allRead left (place + 1) on least most) t in
         let same : place + 1 + on ≡ place + suc on = omega arith in
-        rw (outside (getD low place 0) (getD high place 0) least most duration a from to)
+        rw (outside (getD (spans .low) place 0) (getD (spans .high) place 0) least most duration a from to)
         (reads-lowest left (place + 1) on b ∙ ap At same)
 
   module _ (least duration : ℕ) (from : least ≤ duration) where
-    ends-lowest : (left place : ℕ) → T (noneReads left place least) → lowestFrom low high duration left place ≡ Nothing
+    ends-lowest : (left place : ℕ) → T (noneReads left place least) → lowestFrom spans duration left place ≡ None
     unfolding noneReads lowestFrom
     ends-lowest zero place t = refl
     ends-lowest (suc left) place t =
-        let (a, b) = both (ltb (getD high place 0) least) (noneReads left (place + 1) least) t in
-        rw (above (getD low place 0) (getD high place 0) duration (omega (arith, ltb→lt (getD high place 0) least a)))
+        let (a, b) = both (ltb (getD (spans .high) place 0) least) (noneReads left (place + 1) least) t in
+        rw (above (getD (spans .low) place 0) (getD (spans .high) place 0) duration (omega (arith, ltb→lt (getD (spans .high) place 0) least a)))
         (ends-lowest left (place + 1) b)
 
   -- "above 32 bits it is simply no span": where no end is as large
-  module _ (duration : ℕ) (over : (place : ℕ) → getD high place 0 < duration) where
-    above-lowest : (left place : ℕ) → lowestFrom low high duration left place ≡ Nothing
+  module _ (duration : ℕ) (over : (place : ℕ) → getD (spans .high) place 0 < duration) where
+    above-lowest : (left place : ℕ) → lowestFrom spans duration left place ≡ None
     unfolding lowestFrom
     above-lowest zero place = refl
-    above-lowest (suc left) place = rw (above (getD low place 0) (getD high place 0) duration (over place)) (above-lowest left (place + 1))
+    above-lowest (suc left) place = rw (above (getD (spans .low) place 0) (getD (spans .high) place 0) duration (over place)) (above-lowest left (place + 1))
 
-    pub above-none : lookupIn low high duration ≡ Nothing
+    pub above-none : lookupOf spans duration ≡ None
     above-none = above-lowest 8 0
 
 -- a number is none of the first n
@@ -100,21 +101,21 @@ none-below zero k h = omega arith
 none-below (suc n) k (h, ne) = omega (arith, none-below n k h, ne)
 
 -- a place that is found is one of the eight, and none of them is 8
-module _ (low high : List ℕ) (duration : ℕ) where
-  lowest-le : (left place : ℕ) → place + left ≡ 8 → placeOf (lowestFrom low high duration left place) ≤ 8
+module _ (spans : Spans) (duration : ℕ) where
+  lowest-le : (left place : ℕ) → place + left ≡ 8 → placeOf (lowestFrom spans duration left place) ≤ 8
   unfolding lowestFrom
   lowest-le zero place e = omega arith
-  lowest-le (suc left) place e = go (lowestFrom low high duration left (place + 1)) (holds low high duration place) (lowest-le left (place + 1) (omega arith))
+  lowest-le (suc left) place e = go (lowestFrom spans duration left (place + 1)) (holds spans duration place) (lowest-le left (place + 1) (omega arith))
     where
       go : (later : Found) (test : Bool) → placeOf later ≤ 8 → placeOf (cond test (At place) later) ≤ 8
       go later true h = omega arith
       go later false h = h
 
-  place-le : placeOf (lookupIn low high duration) ≤ 8
+  place-le : placeOf (lookupOf spans duration) ≤ 8
   place-le = lowest-le 8 0 refl
 
   -- a `match` on the place, past an arm for each of the eight
-  pub place-none : (place : ℕ) → place ≡ placeOf (lookupIn low high duration) → NoneBelow 8 place → place ≡ 8
+  pub place-none : (place : ℕ) → place ≡ placeOf (lookupOf spans duration) → NoneBelow 8 place → place ≡ 8
   place-none place e h =
       let most : place ≤ 8 = rw e place-le in
       omega (arith, most, none-below 8 place h)
@@ -123,26 +124,18 @@ module _ (low high : List ℕ) (duration : ℕ) where
 
 -- the place that a duration reads; 8 is none
 abbrev pub placeAt : ℕ → ℕ → ℕ
-placeAt protocol duration =
-    let spans = spansOf protocol 1000000 .spans in
-    placeOf (lookupIn (spans .low) (spans .high) duration)
+placeAt protocol duration = placeOf (lookupOf (spansOf protocol 1000000 .spans) duration)
 
 abbrev pub readsAt : ℕ → ℕ → ℕ → ℕ → Bool
-readsAt protocol place least most =
-    let spans = spansOf protocol 1000000 .spans in
-    allRead (spans .low) (spans .high) 8 0 place least most
+readsAt protocol place least most = allRead (spansOf protocol 1000000 .spans) 8 0 place least most
 
 abbrev pub endsAt : ℕ → ℕ → Bool
-endsAt protocol least =
-    let spans = spansOf protocol 1000000 .spans in
-    noneReads (spans .low) (spans .high) 8 0 least
+endsAt protocol least = noneReads (spansOf protocol 1000000 .spans) 8 0 least
 
 pub reads-place : (protocol place least most duration : ℕ) → T (readsAt protocol place least most) → least ≤ duration → duration ≤ most → placeAt protocol duration ≡ place
 reads-place protocol place least most duration t from to =
-    let spans = spansOf protocol 1000000 .spans in
-    ap placeOf (reads-lowest (spans .low) (spans .high) least most duration from to 8 0 place t) ∙ zero-add place
+    ap placeOf (reads-lowest (spansOf protocol 1000000 .spans) least most duration from to 8 0 place t) ∙ zero-add place
 
 pub ends-place : (protocol least duration : ℕ) → T (endsAt protocol least) → least ≤ duration → placeAt protocol duration ≡ 8
 ends-place protocol least duration t from =
-    let spans = spansOf protocol 1000000 .spans in
-    ap placeOf (ends-lowest (spans .low) (spans .high) least duration from 8 0 t)
+    ap placeOf (ends-lowest (spansOf protocol 1000000 .spans) least duration from 8 0 t)

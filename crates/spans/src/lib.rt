@@ -4,8 +4,8 @@ mod tables;
 ghost use mathlib.Core.Path.{_≡_};
 ghost use Prim.Native.Nat.{_*_, _/_, _<_, _≤_};
 ghost use lib.ListN.{length};
-ghost use Rattle.spans.specs.Spans.{within, spanOf, spanAt, spansAt, rateTaken, protocolTaken, spansOf, refused};
-ghost use Rattle.spans.specs.Lookup.{lookupIn, lookupOf, placeOf};
+ghost use Rattle.spans.specs.Spans.{spanOf, spanAt, spansAt, spansOf, refused, ends};
+ghost use Rattle.spans.specs.Lookup.{lookupOf, placeOf};
 
 pub struct Span {
     pub low: u32,
@@ -32,7 +32,7 @@ pub struct SpansAnswer {
 // The lowest place whose span holds a duration.
 pub enum Found {
     At(u32),
-    Nothing,
+    None,
 }
 
 // The margin about a base.
@@ -104,39 +104,13 @@ fn refusal(number: u32) -> SpansAnswer
     }
 }
 
-fn is_within(low: u32, x: u64, high: u32) -> bool
-    ensures { λ r. ⌜ r ≡ within low x high ⌝ }
-{
-    if low as u64 <= x {
-        x <= high as u64
-    } else {
-        false
-    }
-}
-
-// The protocols that have spans: 1 to 5.
-fn protocol_taken(protocol: u32) -> bool
-    ensures { λ r. ⌜ r ≡ protocolTaken protocol ⌝ }
-{
-    is_within(1, protocol as u64, 5)
-}
-
-// The rates that every call takes: 1 to 9,673,349.
-pub fn rate_taken(rate: u32) -> bool
-    ensures { λ r. ⌜ r ≡ rateTaken rate ⌝ }
-{
-    is_within(1, rate as u64, 9673349)
-}
-
 // The spans of a protocol at a rate. Refusals: 2, then 1.
 pub fn spans_of(protocol: u32, rate: u32) -> SpansAnswer
     ensures { λ r. ⌜ r ≡ spansOf protocol rate ⌝ }
 {
-    if !protocol_taken(protocol) {
-        return refusal(2);
-    }
-    if !rate_taken(rate) {
-        return refusal(1);
+    let number = refusals::of_build(protocol, rate);
+    if number != refusals::NONE {
+        return refusal(number);
     }
     let spans = spans_at(protocol, rate);
     SpansAnswer {
@@ -147,16 +121,16 @@ pub fn spans_of(protocol: u32, rate: u32) -> SpansAnswer
 
 // The lookup in span ends that the caller lends. A duration may be a sum above 32 bits, which no span holds.
 pub fn lookup_in<'a>(low: &'a [u32; 8], high: &'a [u32; 8], duration: u64) -> Found
-    ensures { λ r. ⌜ r ≡ lookupIn (now (low .entry)) (now (high .entry)) duration ⌝ }
+    ensures { λ r. ⌜ r ≡ lookupOf (ends (now (low .entry)) (now (high .entry))) duration ⌝ }
 {
     let mut place: usize = 0;
     while place < 8 {
-        if is_within(low[place], duration, high[place]) {
+        if refusals::is_within(low[place], duration, high[place]) {
             return Found::At(place as u32);
         }
         place += 1;
     }
-    Found::Nothing
+    Found::None
 }
 
 // The lookup in spans by value.
@@ -172,24 +146,24 @@ pub fn place_of(found: Found) -> u32
 {
     match found {
         Found::At(place) => place,
-        Found::Nothing => 8,
+        Found::None => 8,
     }
 }
 
 // Eight ends, read one by one.
-fn ends<'a>(ends: &'a [u32]) -> [u32; 8]
-    requires { ⌜ length (now ends) ≡ 8 ⌝ }
-    ensures { λ r. ⌜ r ≡ now (ends .entry) ⌝ }
+fn each<'a>(lent: &'a [u32]) -> [u32; 8]
+    requires { ⌜ length (now lent) ≡ 8 ⌝ }
+    ensures { λ r. ⌜ r ≡ now (lent .entry) ⌝ }
 {
     [
-        ends[0],
-        ends[1],
-        ends[2],
-        ends[3],
-        ends[4],
-        ends[5],
-        ends[6],
-        ends[7],
+        lent[0],
+        lent[1],
+        lent[2],
+        lent[3],
+        lent[4],
+        lent[5],
+        lent[6],
+        lent[7],
     ]
 }
 
@@ -198,7 +172,7 @@ pub fn again(spans: Spans) -> Spans
     ensures { λ r. ⌜ r ≡ spans ⌝ }
 {
     Spans {
-        low: ends(&spans.low),
-        high: ends(&spans.high),
+        low: each(&spans.low),
+        high: each(&spans.high),
     }
 }

@@ -1,4 +1,4 @@
--- Characters and texts that are put one behind the other. Assumes nothing.
+-- Characters and texts that are put one after the other. Assumes nothing.
 use Prim.Native.Nat.{ℕ}
 use mathlib.Core.Path.{_≡_, refl, sym, ap, _∙_}
 use mathlib.Core.Bool.{Bool, cond}
@@ -17,23 +17,25 @@ unfolding putsOf
 append text at [] cs = refl
 append text at (b ∷ bs) cs = append (putOf text at b .0) (putOf text at b .1) bs cs
 
--- what is put behind a character, and behind a text
+-- what is put after a character, and after a text
 module _ (text : List ℕ) (at : ℕ) (left : List ℕ) (next : ℕ) (cs : List ℕ) where
-  pub behind-char : (b : ℕ) → PutChar text at b left next → putsOf left next cs ≡ putsOf text at (b ∷ cs)
+  pub after-char : (b : ℕ) → PutChar text at b left next → putsOf left next cs ≡ putsOf text at (b ∷ cs)
   unfolding putsOf
-  behind-char b p = λ i. putsOf (p .1 i) (p .0 i) cs
+  after-char b p = λ i. putsOf (p .1 i) (p .0 i) cs
 
-  pub behind-text : (bs : List ℕ) → Put text at bs left next → putsOf left next cs ≡ putsOf text at (bs ++ cs)
-  behind-text bs p = (λ i. putsOf (p .1 i) (p .0 i) cs) ∙ append text at bs cs
+  pub after-text : (bs : List ℕ) → Put text at bs left next → putsOf left next cs ≡ putsOf text at (bs ++ cs)
+  after-text bs p = (λ i. putsOf (p .1 i) (p .0 i) cs) ∙ append text at bs cs
 
 -- of two texts the one that a test picks
-pub picked : (test told : Bool) (bs cs : List ℕ) → test ≡ told → cond told bs cs ≡ cond test bs cs
-picked test told bs cs e = ap (λ (b : Bool). cond b bs cs) (sym e)
+pub picked : (test value : Bool) (bs cs : List ℕ) → test ≡ value → cond value bs cs ≡ cond test bs cs
+picked test value bs cs e = ap (λ (b : Bool). cond b bs cs) (sym e)
 
--- what is put in the end, by an equation of the whole
-pub told : (text : List ℕ) (at : ℕ) (bs left : List ℕ) (next : ℕ) → putsOf left next [] ≡ putsOf text at bs → Put text at bs left next
+-- nothing is left to put: all of it is put
+pub ended : (text : List ℕ) (at : ℕ) (bs left : List ℕ) (next : ℕ) (rest : List ℕ) → [] ≡ rest → putsOf left next rest ≡ putsOf text at bs → Put text at bs left next
 unfolding putsOf
-told text at bs left next e = (ap (λ (r : List ℕ × ℕ). r .1) e, ap (λ (r : List ℕ × ℕ). r .0) e)
+ended text at bs left next rest e inv =
+    let f = ap (λ (cs : List ℕ). putsOf left next cs) e ∙ inv in
+    (ap (λ (r : List ℕ × ℕ). r .1) f, ap (λ (r : List ℕ × ℕ). r .0) f)
 
 module _ (text : List ℕ) (at : ℕ) where
   pub none : Put text at [] text at
@@ -46,7 +48,7 @@ module _ (text : List ℕ) (at : ℕ) where
 
   pub two : (bs left : List ℕ) (next : ℕ) (cs last : List ℕ) (end : ℕ) → Put text at bs left next → Put left next cs last end → Put text at (bs ++ cs) last end
   two bs left next cs last end p q =
-      let e = behind-text text at left next cs bs p in
+      let e = after-text text at left next cs bs p in
       (q .0 ∙ ap (λ (r : List ℕ × ℕ). r .1) e, q .1 ∙ ap (λ (r : List ℕ × ℕ). r .0) e)
 
   pub same : (bs cs left : List ℕ) (next : ℕ) → bs ≡ cs → Put text at bs left next → Put text at cs left next

@@ -4,18 +4,26 @@ use Prim.Native.Char.{Char, code}
 use mathlib.Core.Bool.{Bool, true, cond, _&&_}
 use mathlib.Core.List.{List, [], _∷_, _++_, map}
 use lib.Dec.{leb, ltb}
-use lib.ListN.{length, getD, set}
-use Rattle.spans.specs.declared.Spans.{Spans}
-use Rattle.answers.specs.declared.Said.{Said}
+use lib.ListN.{length, set}
 
 -- a character at a place, where there is room; 0 is none
 unfoldable pub putOf : List ℕ → ℕ → ℕ → List ℕ × ℕ
 putOf text at b = cond (ltb 0 b && ltb at (length text)) (set text at b, at + 1) (text, at)
 
--- characters, one behind the other
+-- characters, one after the other
 unfoldable pub putsOf : List ℕ → ℕ → List ℕ → List ℕ × ℕ
 putsOf text at [] = (text, at)
 putsOf text at (b ∷ bs) = putsOf (putOf text at b .0) (putOf text at b .1) bs
+
+-- those that are put where there is room for all: all but the zeros
+abbrev pub shown : List ℕ → List ℕ
+shown [] = []
+shown (zero ∷ bs) = shown bs
+shown (suc b ∷ bs) = suc b ∷ shown bs
+
+-- and how many they are
+abbrev pub charsIn : List ℕ → ℕ
+charsIn bs = length (shown bs)
 
 -- characters by their codes
 abbrev pub chars : List Char → List ℕ
@@ -50,42 +58,16 @@ digitsOf (suc n) column power x = digitAt x power (leadAt (suc n) column) ∷ di
 unfoldable pub decimal : ℕ → List ℕ
 decimal x = digitsOf 20 0 (10 ^ 19) x
 
--- a number at the right of a column, behind one blank at least
+-- a number at the right of a column, after one blank at least
 unfoldable pub rightText : ℕ → ℕ → List ℕ
 rightText column x = chars (" " ∷ []) ++ digitsOf 20 column (10 ^ 19) x
 
--- a number behind a blank, where it is one of those said
+-- a number after a blank, where it is to be put
 unfoldable pub nextText : Bool → ℕ → List ℕ
-nextText said x = cond said (chars (" " ∷ []) ++ decimal x) []
+nextText put x = cond put (chars (" " ∷ []) ++ decimal x) []
 
--- the first of the numbers, so many, each behind a blank
+-- the first of the numbers, so many, each after a blank
 unfoldable pub numbersText : ℕ → List ℕ → List ℕ
 numbersText zero ns = []
 numbersText (suc n) [] = []
 numbersText (suc n) (x ∷ xs) = nextText true x ++ numbersText n xs
-
--- an answer: its text, and the numbers behind it
-unfoldable pub saidText : Said → List ℕ
-saidText said = letters 8 (said .head) ++ letters 8 (said .tail) ++ numbersText (said .count) (said .numbers)
-
--- an answer that others follow on the line
-unfoldable pub partText : Said → List ℕ
-partText said = saidText said ++ chars ("," ∷ " " ∷ [])
-
--- the two ends of a span
-unfoldable pub spanText : ℕ → ℕ → List ℕ
-spanText low high = decimal low ++ chars ("." ∷ "." ∷ []) ++ decimal high
-
--- a blank before each place but the first
-abbrev pub gapAt : ℕ → ℕ
-gapAt place = cond (ltb 0 place) (code " ") 0
-
--- the spans at so many places, from a place on
-unfoldable pub spansFrom : ℕ → ℕ → Spans → List ℕ
-spansFrom zero place spans = []
-spansFrom (suc n) place spans =
-    (gapAt place ∷ spanText (getD (spans .low) place 0) (getD (spans .high) place 0)) ++ spansFrom n (place + 1) spans
-
--- the spans at all eight
-unfoldable pub spansText : Spans → List ℕ
-spansText spans = spansFrom 8 0 spans

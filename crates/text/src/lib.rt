@@ -1,9 +1,8 @@
 // Text that gathers in a lent slice. Each function takes the place where its text starts, and answers the next one.
-use answers::Said;
-use spans::Spans;
-ghost use Prim.Native.Nat.{_^_};
+ghost use Prim.Native.Nat.{_^_, _≤_};
 ghost use mathlib.Core.Path.{_≡_};
-ghost use Rattle.text.specs.Text.{putOf, putsOf, firstLetter, otherLetters, letters, digitAt, leadAt, digitsOf, decimal, rightText, nextText, numbersText, saidText, partText, spanText, gapAt, spansText};
+ghost use mathlib.Core.List.{[], _∷_};
+ghost use Rattle.text.specs.Text.{putOf, putsOf, charsIn, firstLetter, otherLetters, letters, digitAt, leadAt, digitsOf, decimal, rightText, nextText, numbersText};
 
 // A character, where there is room; 0 is none.
 pub fn put(text: &mut [u8], at: usize, b: u8) -> usize
@@ -26,7 +25,7 @@ fn first_letter(word: u64) -> u8
     (word / 0x100000000000000 % 256) as u8
 }
 
-// The letters behind the first.
+// The letters after the first.
 fn other_letters(word: u64) -> u64
     ensures { λ r. ⌜ r ≡ otherLetters word ⌝ }
 {
@@ -93,7 +92,29 @@ pub fn put_number(text: &mut [u8], at: usize, x: u64) -> usize
     put_digits(text, at, 0, x)
 }
 
-// A number at the right of a column, behind one blank at least.
+// 1 for a character, 0 for none.
+fn length_of(b: u8) -> usize
+    ensures { λ r. ⌜ (r ≡ charsIn (b ∷ [])) × (r ≤ 1) ⌝ }
+{
+    if 0 < b { 1 } else { 0 }
+}
+
+// How many characters a number has in decimal: a writer can ask first what fits.
+pub fn number_length(x: u64) -> usize
+    ensures { λ r. ⌜ r ≡ charsIn (decimal x) ⌝ }
+{
+    let mut length: usize = 0;
+    let mut power: u64 = 10000000000000000000;
+    let mut left: usize = 20;
+    while left > 0 {
+        length += length_of(digit_at(x, power, 0));
+        power = power / 10;
+        left -= 1;
+    }
+    length
+}
+
+// A number at the right of a column, after one blank at least.
 pub fn put_right(text: &mut [u8], at: usize, column: usize, x: u64) -> usize
     ensures next { λ r. ⌜ r ≡ putsOf (now (text .entry)) at (rightText column x) .1 ⌝ }
     ensures left { λ _. ⌜ now (text .exit) ≡ putsOf (now (text .entry)) at (rightText column x) .0 ⌝ }
@@ -102,20 +123,20 @@ pub fn put_right(text: &mut [u8], at: usize, column: usize, x: u64) -> usize
     put_digits(text, next, column, x)
 }
 
-// A number behind a blank, where it is one of those said.
-fn put_next(text: &mut [u8], at: usize, is_said: bool, x: u64) -> usize
-    ensures next { λ r. ⌜ r ≡ putsOf (now (text .entry)) at (nextText «is_said» x) .1 ⌝ }
-    ensures left { λ _. ⌜ now (text .exit) ≡ putsOf (now (text .entry)) at (nextText «is_said» x) .0 ⌝ }
+// A number after a blank, where it is to be put.
+fn put_next(text: &mut [u8], at: usize, is_put: bool, x: u64) -> usize
+    ensures next { λ r. ⌜ r ≡ putsOf (now (text .entry)) at (nextText «is_put» x) .1 ⌝ }
+    ensures left { λ _. ⌜ now (text .exit) ≡ putsOf (now (text .entry)) at (nextText «is_put» x) .0 ⌝ }
 {
-    if is_said {
+    if is_put {
         let next = put(text, at, b' ');
         return put_number(text, next, x);
     }
     at
 }
 
-// The first of the numbers, each behind a blank.
-fn put_numbers(text: &mut [u8], at: usize, numbers: &[u64], count: usize) -> usize
+// The first of the numbers, each after a blank.
+pub fn put_numbers(text: &mut [u8], at: usize, numbers: &[u64], count: usize) -> usize
     ensures next { λ r. ⌜ r ≡ putsOf (now (text .entry)) at (numbersText count (now (numbers .entry))) .1 ⌝ }
     ensures left { λ _. ⌜ now (text .exit) ≡ putsOf (now (text .entry)) at (numbersText count (now (numbers .entry))) .0 ⌝ }
 {
@@ -134,7 +155,7 @@ fn wide(x: u32) -> u64
     x as u64
 }
 
-// The first of the durations, each behind a blank.
+// The first of the durations, each after a blank.
 pub fn put_durations(text: &mut [u8], at: usize, durations: &[u32], count: usize) -> usize
     ensures next { λ r. ⌜ r ≡ putsOf (now (text .entry)) at (numbersText count (now (durations .entry))) .1 ⌝ }
     ensures left { λ _. ⌜ now (text .exit) ≡ putsOf (now (text .entry)) at (numbersText count (now (durations .entry))) .0 ⌝ }
@@ -144,60 +165,6 @@ pub fn put_durations(text: &mut [u8], at: usize, durations: &[u32], count: usize
     while i < durations.len() {
         next = put_next(text, next, i < count, wide(durations[i]));
         i += 1;
-    }
-    next
-}
-
-// What a call answers: its text, and the numbers behind it.
-pub fn put_said(text: &mut [u8], at: usize, said: Said) -> usize
-    ensures next { λ r. ⌜ r ≡ putsOf (now (text .entry)) at (saidText said) .1 ⌝ }
-    ensures left { λ _. ⌜ now (text .exit) ≡ putsOf (now (text .entry)) at (saidText said) .0 ⌝ }
-{
-    let next = put_letters(text, at, said.head);
-    let next = put_letters(text, next, said.tail);
-    let numbers = said.numbers;
-    put_numbers(text, next, &numbers, said.count)
-}
-
-// An answer that others follow on the line.
-pub fn put_part(text: &mut [u8], at: usize, said: Said) -> usize
-    ensures next { λ r. ⌜ r ≡ putsOf (now (text .entry)) at (partText said) .1 ⌝ }
-    ensures left { λ _. ⌜ now (text .exit) ≡ putsOf (now (text .entry)) at (partText said) .0 ⌝ }
-{
-    let next = put_said(text, at, said);
-    let next = put(text, next, b',');
-    put(text, next, b' ')
-}
-
-// The two ends of a span, and two dots between them.
-fn put_span(text: &mut [u8], at: usize, low: u32, high: u32) -> usize
-    ensures next { λ r. ⌜ r ≡ putsOf (now (text .entry)) at (spanText low high) .1 ⌝ }
-    ensures left { λ _. ⌜ now (text .exit) ≡ putsOf (now (text .entry)) at (spanText low high) .0 ⌝ }
-{
-    let next = put_number(text, at, low as u64);
-    let next = put(text, next, b'.');
-    let next = put(text, next, b'.');
-    put_number(text, next, high as u64)
-}
-
-// A blank before each place but the first.
-fn gap(place: usize) -> u8
-    ensures { λ r. ⌜ r ≡ gapAt place ⌝ }
-{
-    if 0 < place { b' ' } else { 0 }
-}
-
-// The span at each of the eight places.
-pub fn put_spans(text: &mut [u8], at: usize, spans: Spans) -> usize
-    ensures next { λ r. ⌜ r ≡ putsOf (now (text .entry)) at (spansText spans) .1 ⌝ }
-    ensures left { λ _. ⌜ now (text .exit) ≡ putsOf (now (text .entry)) at (spansText spans) .0 ⌝ }
-{
-    let mut next = at;
-    let mut place: usize = 0;
-    while place < 8 {
-        next = put(text, next, gap(place));
-        next = put_span(text, next, spans.low[place], spans.high[place]);
-        place += 1;
     }
     next
 }

@@ -2,7 +2,7 @@
 use crate::out::print;
 use crate::out::print_until;
 use edge_rows::put_edges;
-use receiver::decoder::Decoder;
+use protocols::decoder::Decoder;
 
 pub fn print_head() {
     print(b" edge level     after  reports");

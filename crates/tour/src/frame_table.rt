@@ -2,11 +2,11 @@
 use crate::edges;
 use crate::out::print;
 use crate::out::print_newline;
+use crate::out::print_phrase;
 use crate::out::print_right;
-use crate::out::print_said;
 use answers::of_encoded;
 use frames::written;
-use receiver::encoder::encode;
+use protocols::encoder::encode_by;
 
 fn print_frame(protocol: u32, rate: u32, places: &[u32], count: usize) {
     print(b"Its durations, in ticks:");
@@ -28,12 +28,12 @@ pub fn show(
     toggle: bool,
     room: &mut [u32],
 ) {
-    let encoded = encode(protocol, rate, addr, cmd, start, toggle, room);
+    let encoded = encode_by(protocol, rate, addr, cmd, start, toggle, room);
     let count = written(encoded);
     if 0 < count {
         print_frame(protocol, rate, room, count);
     } else {
-        print_said(of_encoded(encoded));
+        print_phrase(of_encoded(encoded));
     }
 }
 

@@ -11,7 +11,7 @@ mod span_table;
 use given::number;
 use out::print;
 use promises::send::least_silence;
-use promises::send::most_wrong;
+use promises::send::most_deviation;
 use words::low_8;
 use words::low_32;
 
@@ -23,9 +23,9 @@ fn help() {
     the spans of all five protocols, and the place of a duration
 ./run frame PROTOCOL RATE ADDRESS COMMAND [START TOGGLE]
     the frame of a command, and what a fresh decoder reports at each edge
-./run send PROTOCOL ADDRESS COMMAND [START TOGGLE [SILENCE WRONG]]
-    at 1 MHz, after noise: the frame behind the silence, two durations too long by the wrong, two too short,
-    and so on; what is heard of it. SILENCE and WRONG are at the bound of what is promised where they are left out
+./run send PROTOCOL ADDRESS COMMAND [START TOGGLE [SILENCE DEVIATION]]
+    at 1 MHz, after noise: the frame after the silence, two durations too long by the deviation, two too short,
+    and so on; what is heard of it. SILENCE and DEVIATION are at the bound of what is promised where they are left out
 PROTOCOL is 1 for NEC, 2 for RC5, 3 for RC6. START is 3 and TOGGLE 0 where they are left out.
 A number is decimal digits, below 2^32.",
     );
@@ -75,8 +75,8 @@ fn run_send(count: usize) {
     let toggle = number(6, count, 0, 1);
     let sent = low_32(protocol);
     let silence = number(7, count, least_silence(sent) as u64, given::LAST);
-    let wrong = number(8, count, most_wrong(sent) as u64, given::LAST);
-    let all = protocol | addr | cmd | start | toggle | silence | wrong;
+    let deviation = number(8, count, most_deviation(sent) as u64, given::LAST);
+    let all = protocol | addr | cmd | start | toggle | silence | deviation;
     if ((count == 5) | (count == 7) | (count == 9)) & (all <= given::LAST) {
         send_table::show(
             low_32(protocol),
@@ -85,7 +85,7 @@ fn run_send(count: usize) {
             low_8(start),
             toggle == 1,
             low_32(silence),
-            low_32(wrong),
+            low_32(deviation),
         );
     } else {
         usage();

@@ -1,5 +1,5 @@
 // Text and numbers, printed in columns. What is printed often is a function: a call is proved faster than a text.
-use answers::Said;
+use answers::Phrase;
 use libc::STDOUT_FILENO;
 
 pub fn print(s: &[u8]) {
@@ -17,15 +17,15 @@ pub fn print_newline() {
     print(b"\n");
 }
 
-// At the right of a column; behind one blank where the column is 0.
+// At the right of a column; after one blank where the column is 0.
 pub fn print_right(column: usize, x: u64) {
     let mut room = [0u8; 21];
     let end = text::put_right(&mut room, 0, column, x);
     print_until(&room, end);
 }
 
-pub fn print_said(said: Said) {
+pub fn print_phrase(phrase: Phrase) {
     let mut room = [0u8; 100];
-    let end = text::put_said(&mut room, 0, said);
+    let end = answer_text::put_phrase(&mut room, 0, phrase);
     print_until(&room, end);
 }

@@ -2,7 +2,7 @@
 use crate::edges;
 use crate::frame_table;
 use crate::out::print;
-use crate::out::print_said;
+use crate::out::print_phrase;
 use crate::send_table::print_head;
 use crate::send_table::print_line;
 use answers::of_report;
@@ -27,8 +27,8 @@ fn show_heard() {
         b"
 
 2. A frame that is sent is heard
-Noise comes first: a rise after 3000, a fall after 2664, a rise after 889, a fall after 0. Behind the silence the frame rises;
-two of its durations are too long by the wrong, two too short, and so on. At the bounds the command comes, once:
+Noise comes first: a rise after 3000, a fall after 2664, a rise after 889, a fall after 0. After the silence the frame rises;
+two of its durations are too long by the deviation, two too short, and so on. At the bounds the command comes, once:
 ",
     );
     print_head();
@@ -38,7 +38,7 @@ two of its durations are too long by the wrong, two too short, and so on. At the
 }
 
 fn show_lost() {
-    print(b"\nWith one tick more of wrong these are lost:");
+    print(b"\nWith one tick more of deviation these are lost:");
     print_line(1, 4, 8, 3, false, 14446, 29);
     print_line(2, 5, 12, 3, false, 1956, 107);
     print_line(3, 5, 12, 3, false, 2984, 54);
@@ -83,7 +83,7 @@ fn show_held_key() {
 
 3. Whose command does a held key show?
 An NEC frame breaks after eight bits: a sync of 13500, eight ones of 2250 each, a pulse of 5000. Then the key's repeat comes, of 11250.
-A pulse is a fall and the rise behind it. These edges report something; the repeat shows the bits that came before the break.
+A pulse is a fall and the rise after it. These edges report something; the repeat shows the bits that came before the break.
 ",
     );
     edges::print_head();
@@ -102,7 +102,7 @@ fn print_at_bit_32() {
     let decoder = NecDecoder { spans, memory };
     let total = decoder.event_total(true, 1120);
     let report = total.report;
-    print_said(of_report(report));
+    print_phrase(of_report(report));
 }
 
 // An RC5 frame's answer, or the refusal of its number, with 25 places of room.

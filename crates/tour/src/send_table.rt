@@ -1,11 +1,13 @@
-// A frame sent after noise and a silence, with a wrong at each duration: what was reported.
+// A frame sent after noise and a silence, with a deviation at each duration: what was reported.
 use crate::frame_table;
 use crate::out::print;
 use crate::out::print_until;
+use commands::CommandAnswer;
+use commands::command_of;
 use promises::send::Sent;
 use promises::send::after;
-use promises::send::send_wrong;
-use receiver::decoder::Decoder;
+use promises::send::send_deviated;
+use protocols::decoder::Decoder;
 use rows::put_sending;
 use rows::put_sent;
 
@@ -24,7 +26,7 @@ fn print_sending(
     start: u8,
     toggle: bool,
     silence: u32,
-    wrong: u32,
+    deviation: u32,
 ) {
     let mut room = [0u8; 200];
     let end = put_sending(
@@ -36,7 +38,7 @@ fn print_sending(
         start,
         toggle,
         silence,
-        wrong,
+        deviation,
     );
     print_until(&room, end);
 }
@@ -49,6 +51,7 @@ fn print_sent(sent: Sent) {
     print_until(&room, end);
 }
 
+// A number that is refused has no line.
 pub fn print_line(
     protocol: u32,
     addr: u8,
@@ -56,24 +59,35 @@ pub fn print_line(
     start: u8,
     toggle: bool,
     silence: u32,
-    wrong: u32,
+    deviation: u32,
 ) {
-    print_sending(protocol, addr, cmd, start, toggle, silence, wrong);
-    let decoder = after_noise(protocol);
-    print_sent(send_wrong(decoder, protocol, addr, cmd, start, toggle, silence, wrong));
+    let made = command_of(protocol, addr, cmd, start, toggle);
+    if let CommandAnswer::Made(command) = made {
+        print_sending(protocol, addr, cmd, start, toggle, silence, deviation);
+        let decoder = after_noise(protocol);
+        print_sent(send_deviated(decoder, command, silence, deviation));
+    }
 }
 
 pub fn print_head() {
     print(
-        b"protocol address command start toggle silence wrong  first edge  others  next edge  reports",
+        b"protocol address command start toggle silence deviation  first edge  others  next edge  reports",
     );
 }
 
-// A number that is refused has no line, and what the encoder says of it is shown.
-pub fn show(protocol: u32, addr: u8, cmd: u8, start: u8, toggle: bool, silence: u32, wrong: u32) {
-    if (1 <= protocol) & (protocol <= 3) {
+// Of a number that is refused, what the encoder says is shown.
+pub fn show(
+    protocol: u32,
+    addr: u8,
+    cmd: u8,
+    start: u8,
+    toggle: bool,
+    silence: u32,
+    deviation: u32,
+) {
+    if refusals::encode_taken(protocol) {
         print_head();
-        print_line(protocol, addr, cmd, start, toggle, silence, wrong);
+        print_line(protocol, addr, cmd, start, toggle, silence, deviation);
     } else {
         frame_table::show_whole(protocol, 1000000, addr, cmd, start, toggle);
     }

@@ -1,7 +1,7 @@
 // The spans of all five protocols at a rate, and the place of a duration.
 use crate::out::print;
+use crate::out::print_phrase;
 use crate::out::print_right;
-use crate::out::print_said;
 use crate::out::print_until;
 use answers::of_answer;
 use span_rows::put_place_row;
@@ -37,6 +37,6 @@ pub fn show(rate: u32, duration: u64, is_given: bool) {
                 print_places(rate, duration);
             }
         }
-        Answer::Refused(number) => print_said(of_answer(Answer::Refused(number))),
+        Answer::Refused(number) => print_phrase(of_answer(Answer::Refused(number))),
     }
 }

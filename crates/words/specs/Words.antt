@@ -42,7 +42,7 @@ spelledOn x b = cond (isDigit b) (digitOn x (b - 48)) (2 ^ 64 - 1)
 abbrev pub namedOn : ℕ → ℕ → ℕ
 namedOn x b = x % 2 ^ 56 * 256 + b
 
--- a text, character by character, behind what is read of it already
+-- a text, character by character, after what is read of it already
 unfoldable pub readBy : (ℕ → ℕ → ℕ) → ℕ → List ℕ → ℕ
 readBy on x [] = x
 readBy on x (b ∷ bs) = readBy on (on x b) bs

@@ -3,7 +3,7 @@ ghost use mathlib.Core.Path.{_≡_};
 ghost use Prim.Native.Nat.{_%_};
 ghost use Rattle.words.specs.Words.{freshLine, brokenLine, letterOn, isBegun, isRoom, digitOn, isLetter, isDigit, spelledOn, namedOn, readBy, digitFed, blankFed, fedOf};
 
-// A line of input as it is read: a name, and numbers behind single blanks.
+// A line of input as it is read: a name, and numbers after single blanks.
 pub struct Line {
     // the name's letters, as digits of base 256
     pub name: u64,
@@ -23,7 +23,7 @@ pub fn fresh() -> Line
     }
 }
 
-// Whatever follows, the line stays so: no number is begun behind the eighth.
+// Whatever follows, the line stays so: no number is begun after the eighth.
 fn broken() -> Line
     ensures { λ r. ⌜ r ≡ brokenLine ⌝ }
 {

@@ -3,15 +3,6 @@ use borrow.Author.Needs.{needs}
 use Rattle.answers.proofs.of_encoded.Statement.{statement}
 use Rattle.answers.proofs.of_encoded.Tie as tie
 
-returns : tie.Need-returns
-returns c = simp (c .with .ensures, c .before .before .encoded .given .1)
-
-returns-2 : tie.Need-returns-2
-returns-2 c = simp (c .of-refused .ensures, c .before .before .encoded2 .given .1)
-
-returns-3 : tie.Need-returns-3
-returns-3 c = simp (c .with2 .ensures, c .before .before .encoded3 .given .1)
-
 pub of-encoded-spec : {M : Type 1} → statement M
 of-encoded-spec =
     tie.close
@@ -22,6 +13,6 @@ of-encoded-spec =
     (λ c κs. search needs)
     (λ c. search needs)
     (λ c κs. search needs)
-    returns
-    returns-2
-    returns-3)
+    (λ c. simp (c .with .ensures, c .before .before .encoded .given .1))
+    (λ c. simp (c .of-refused .ensures, c .before .before .encoded2 .given .1))
+    (λ c. simp (c .with2 .ensures, c .before .before .encoded3 .given .1)))

@@ -3,18 +3,6 @@ use borrow.Author.Needs.{needs}
 use Rattle.bench.proofs.command_code.Statement.{statement}
 use Rattle.bench.proofs.command_code.Tie as tie
 
-returns : tie.Need-returns
-returns c = cc
-
-returns-2 : tie.Need-returns-2
-returns-2 c = cc
-
-returns-3 : tie.Need-returns-3
-returns-3 c = cc
-
-returns-4 : tie.Need-returns-4
-returns-4 c = cc
-
 pub command-code-spec : {M : Type 1} → statement M
 command-code-spec =
     tie.close
@@ -28,8 +16,8 @@ command-code-spec =
     (λ c. search needs)
     (λ c κs. search needs)
     (λ c. search needs)
-    returns
-    returns-2
-    returns-3
-    returns-4
+    (λ c. cc)
+    (λ c. cc)
+    (λ c. cc)
+    (λ c. cc)
     (λ c. search needs))

@@ -90,7 +90,7 @@ slice = sliceTy (tyRef (named 0) imm byte)
 abbrev ref : Ty
 ref = tyRef erased mut (tyNamed (T.the-type .name, []))
 
--- a turn behind its test, and the rest behind the loop
+-- a turn after its test, and the rest after the loop
 abbrev more : Body
 more =
     seq (assign (place 9 []) (addrOf (place 3 [])))
@@ -175,7 +175,7 @@ module _ {M : Type 1} (𝓤 : URA M) (H : Heap 𝓤) (A : Atoms 𝓤) (W : Given
         abbrev En : Env 𝓤 H
         En = (word, l₀) ∷ (polled-ty, l₁) ∷ (slice, l₂) ∷ (polled-ty, l₃) ∷ (word, l₄) ∷ (word, l₅) ∷ (report-ty, l₆) ∷ (word, l₇) ∷ (tyBool, l₈) ∷ (ref, l₉) ∷ (tyPtr, l₁₀) ∷ (byte, l₁₁) ∷ []
 
-        -- local k stands at 2 * (11 - k), and behind the locals the token and what the slice owns
+        -- local k stands at 2 * (11 - k), and after the locals the token and what the slice owns
         abbrev At : Turn h ys → List (Item 𝓤)
         At t =
             ‵ (froom byte l₁₁ 0) ∷ ‵ (fdies byte l₁₁) ∷ ‵ (froom tyPtr l₁₀ 0) ∷ ‵ (fdies tyPtr l₁₀) ∷ ‵ (froom ref l₉ 0) ∷ ‵ (fdies ref l₉) ∷ ‵ (froom tyBool l₈ 0) ∷ ‵ (fdies tyBool l₈)

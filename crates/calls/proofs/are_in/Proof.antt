@@ -17,9 +17,6 @@ Inv-loop call n count i₀ i =
 abbrev μ-loop : tie.MeasureT-loop
 μ-loop call n count i₀ i = count - i
 
-loop-holds : tie.Need-loop-holds Inv-loop μ-loop
-loop-holds c = (search needs, refl)
-
 returns : tie.Need-returns Inv-loop μ-loop
 returns c =
     let loop = c .before .before .before .before .loop in
@@ -30,9 +27,6 @@ loop-again c =
     let loop = c .before .before .before .before .loop in
     (search needs, number-in _ _ (loop .i) (loop .inv .1) (omega arith) (sym (c .before .is-in .ensures) ∙ not-false _ (c .if1 .left)))
 
-returns-2 : tie.Need-returns-2 Inv-loop μ-loop
-returns-2 c = let loop = c .before .loop in numbers-in _ _ (loop .i) (loop .inv .1) (omega arith)
-
 pub are-in-spec : {M : Type 1} → statement M
 are-in-spec =
     tie.close
@@ -40,7 +34,7 @@ are-in-spec =
     Inv-loop
     μ-loop
     (λ c κs. search needs)
-    loop-holds
+    (λ c. (search needs, refl))
     (λ c. search needs)
     (λ c. search needs)
     (λ c κs. search needs)
@@ -48,4 +42,4 @@ are-in-spec =
     (λ c. search needs)
     (λ c. search needs)
     loop-again
-    returns-2)
+    (λ c. let loop = c .before .loop in numbers-in _ _ (loop .i) (loop .inv .1) (omega arith)))

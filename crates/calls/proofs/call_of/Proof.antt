@@ -14,9 +14,6 @@ Inv-loop line n call₀ call = (call ≤ 12) × (From line n call ≡ callOf lin
 abbrev μ-loop : tie.MeasureT-loop
 μ-loop line n call₀ call = 12 - call
 
-loop-holds : tie.Need-loop-holds Inv-loop μ-loop
-loop-holds c = (search needs, started _ _)
-
 returns : tie.Need-returns Inv-loop μ-loop
 returns c =
     let loop = c .before .before .before .loop in
@@ -27,19 +24,16 @@ loop-again c =
     let loop = c .before .before .before .loop in
     (search needs, call-is-not _ _ (loop .call) (loop .inv .1) (search needs) (sym (c .before .is-call .ensures) ∙ c .if1 .left))
 
-returns-2 : tie.Need-returns-2 Inv-loop μ-loop
-returns-2 c = let loop = c .before .loop in no-call _ _ (loop .call) (loop .inv .1) (omega arith)
-
 pub call-of-spec : {M : Type 1} → statement M
 call-of-spec =
     tie.close
     (tie.spec
     Inv-loop
     μ-loop
-    loop-holds
+    (λ c. (search needs, started _ _))
     (λ c κs. search needs)
     returns
     (λ c. search needs)
     (λ c. search needs)
     loop-again
-    returns-2)
+    (λ c. let loop = c .before .loop in no-call _ _ (loop .call) (loop .inv .1) (omega arith)))

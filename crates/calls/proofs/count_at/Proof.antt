@@ -4,8 +4,5 @@ use borrow.Author.Needs.{needs}
 use Rattle.calls.proofs.count_at.Statement.{statement}
 use Rattle.calls.proofs.count_at.Tie as tie
 
-returns : tie.Need-returns
-returns c = (count-is (c .args .call) (c .pre), count-le (c .args .call) (c .pre))
-
 pub count-at-spec : {M : Type 1} → statement M
-count-at-spec = tie.close (tie.spec (λ c. search needs) (λ c. search needs) returns)
+count-at-spec = tie.close (tie.spec (λ c. search needs) (λ c. search needs) (λ c. (count-is (c .args .call) (c .pre), count-le (c .args .call) (c .pre))))

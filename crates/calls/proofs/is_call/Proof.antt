@@ -4,11 +4,11 @@ use borrow.Author.Needs.{needs}
 use Rattle.calls.proofs.is_call.Statement.{statement}
 use Rattle.calls.proofs.is_call.Tie as tie
 
-returns : tie.Need-returns
-returns c = simp (sym (c .before .before .is-named .ensures) ∙ c .before .if1 .taken, c .are-in .ensures)
-
-returns-2 : tie.Need-returns-2
-returns-2 c = simp (sym (c .before .is-named .ensures) ∙ c .if1 .left) (c .if1 .left)
-
 pub is-call-spec : {M : Type 1} → statement M
-is-call-spec = tie.close (tie.spec (λ c κs. search needs) (λ c κs. search needs) returns returns-2)
+is-call-spec =
+    tie.close
+    (tie.spec
+    (λ c κs. search needs)
+    (λ c κs. search needs)
+    (λ c. simp (sym (c .before .before .is-named .ensures) ∙ c .before .if1 .taken, c .are-in .ensures))
+    (λ c. simp (sym (c .before .is-named .ensures) ∙ c .if1 .left) (c .if1 .left)))

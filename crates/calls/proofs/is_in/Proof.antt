@@ -5,11 +5,11 @@ use borrow.Author.Needs.{needs}
 use Rattle.calls.proofs.is_in.Statement.{statement}
 use Rattle.calls.proofs.is_in.Tie as tie
 
-returns : tie.Need-returns
-returns c = simp (sym (c .before .before .least-at .ensures), le-leb _ _ (c .before .if1 .taken), c .most-at .ensures)
-
-returns-2 : tie.Need-returns-2
-returns-2 c = simp (sym (c .before .least-at .ensures), lt-leb _ _ (c .if1 .left))
-
 pub is-in-spec : {M : Type 1} → statement M
-is-in-spec = tie.close (tie.spec (λ c κs. search needs) (λ c κs. search needs) returns returns-2)
+is-in-spec =
+    tie.close
+    (tie.spec
+    (λ c κs. search needs)
+    (λ c κs. search needs)
+    (λ c. simp (sym (c .before .before .least-at .ensures), le-leb _ _ (c .before .if1 .taken), c .most-at .ensures))
+    (λ c. simp (sym (c .before .least-at .ensures), lt-leb _ _ (c .if1 .left))))

@@ -4,8 +4,5 @@ use borrow.Author.Needs.{needs}
 use Rattle.calls.proofs.name_at.Statement.{statement}
 use Rattle.calls.proofs.name_at.Tie as tie
 
-returns : tie.Need-returns
-returns c = name-is (c .args .call) (c .pre)
-
 pub name-at-spec : {M : Type 1} → statement M
-name-at-spec = tie.close (tie.spec (λ c. search needs) (λ c. search needs) returns)
+name-at-spec = tie.close (tie.spec (λ c. search needs) (λ c. search needs) (λ c. name-is (c .args .call) (c .pre)))

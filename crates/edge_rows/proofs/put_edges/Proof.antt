@@ -2,10 +2,11 @@
 use Prim.Native.Nat.{_+_, _-_}
 use mathlib.Core.Path.{_≡_, refl}
 use lib.ListN.{length, drop}
-use Rattle.reports.specs.Run.{alternating}
+use Rattle.reports.specs.Edges.{alternating}
 use Rattle.text.specs.Text.{putsOf}
+use Rattle.text.proofs.Puts.{ended}
 use Rattle.edge_rows.specs.EdgeRows.{edgesText}
-use Rattle.edge_rows.proofs.Lines.{edge-put, edges-put}
+use Rattle.edge_rows.proofs.Lines.{edge-put, no-edges}
 use borrow.Author.Needs.{needs}
 use Rattle.edge_rows.proofs.put_edges.Statement.{statement}
 use Rattle.edge_rows.proofs.put_edges.Tie as tie
@@ -18,9 +19,6 @@ Inv-loop text₀ at all rising durations after₀ rises₀ next₀ i₀ text aft
 
 abbrev μ-loop : tie.MeasureT-loop
 μ-loop text₀ at all rising durations after₀ rises₀ next₀ i₀ text after rises next i = length durations - i
-
-loop-holds : tie.Need-loop-holds Inv-loop μ-loop
-loop-holds c = (refl, refl)
 
 loop-again : tie.Need-loop-again Inv-loop μ-loop
 loop-again c =
@@ -36,7 +34,7 @@ loop-again c =
 returns : tie.Need-returns Inv-loop μ-loop
 returns c =
     let loop = c .before .loop in
-    edges-put _ _ _ (loop .text) (loop .next) _ (loop .i) _ (loop .rises) (loop .after) (c .loop-test .left) (loop .inv .1)
+    ended _ _ _ (loop .text) (loop .next) _ (no-edges _ (loop .i) _ (loop .rises) (loop .after) (c .loop-test .left)) (loop .inv .1)
 
 pub put-edges-spec : {M : Type 1} → statement M
 put-edges-spec =
@@ -44,7 +42,7 @@ put-edges-spec =
     (tie.spec
     Inv-loop
     μ-loop
-    loop-holds
+    (λ c. (refl, refl))
     (λ c. search needs)
     (λ c. search needs)
     (λ c κs. search needs)

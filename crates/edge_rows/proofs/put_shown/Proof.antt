@@ -9,11 +9,11 @@ use Rattle.edge_rows.proofs.put_shown.Tie as tie
 returns : tie.Need-returns
 returns c =
     let put = c .before .before in
-    let said = put .before in
-    let test = said .before .before in
+    let phrase = put .before in
+    let test = phrase .before .before in
     let args = test .before .before .before .args in
     let e = sym (test .before .is-shown .ensures) ∙ test .if1 .taken in
-    let line = shown (args .all) (args .number) (args .rising) (args .duration) (args .report) (said .of-report .result) (said .of-report .ensures) e in
+    let line = shown (args .all) (args .number) (args .rising) (args .duration) (args .report) (phrase .of-report .result) (phrase .of-report .ensures) e in
     same _ _ _ _ _ _ line (put .put-edge .ensures)
 
 returns-2 : tie.Need-returns-2

@@ -11,14 +11,13 @@ use Rattle.frames.specs.Frames.{bitSet}
 use Rattle.frames.proofs.bit.Statement.{statement}
 use Rattle.frames.proofs.bit.Tie as tie
 
-returns : tie.Need-returns
-returns c = ap (λ (b : ℕ). eqb b 1) (and-mask (c .before .args .bits / 2 ^ c .before .args .place) 1)
-
 none-above : (bits place : ℕ) → bits < 2 ^ 64 → 64 ≤ place → false ≡ bitSet bits place
 none-above bits place h past = rw (div-eq-of-lt (lt-of-lt-of-le h (pow-mono past)))
 
-returns-2 : tie.Need-returns-2
-returns-2 c = none-above (c .before .args .bits) (c .before .args .place) (search needs) (c .if1 .left)
-
 pub bit-spec : {M : Type 1} → statement M
-bit-spec = tie.close (tie.spec (λ c. search needs) returns returns-2)
+bit-spec =
+    tie.close
+    (tie.spec
+    (λ c. search needs)
+    (λ c. ap (λ (b : ℕ). eqb b 1) (and-mask (c .before .args .bits / 2 ^ c .before .args .place) 1))
+    (λ c. none-above (c .before .args .bits) (c .before .args .place) (search needs) (c .if1 .left)))

@@ -4,12 +4,6 @@ use borrow.Author.Needs.{needs}
 use Rattle.nec_encoder.proofs.put_bit.Statement.{statement}
 use Rattle.nec_encoder.proofs.put_bit.Tie as tie
 
-returns : tie.Need-returns
-returns c = simp (c .if1 .taken, add-one)
-
-returns-2 : tie.Need-returns-2
-returns-2 c = simp (c .if1 .left, add-one)
-
 pub put-bit-spec : {M : Type 1} → statement M
 put-bit-spec =
     tie.close
@@ -23,6 +17,6 @@ put-bit-spec =
     (λ c. search needs)
     (λ c. search needs)
     (λ c. search needs)
-    returns
+    (λ c. simp (c .if1 .taken, add-one))
     (λ c. search needs)
-    returns-2)
+    (λ c. simp (c .if1 .left, add-one)))

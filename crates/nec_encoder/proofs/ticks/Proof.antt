@@ -5,8 +5,10 @@ use Rattle.frames.proofs.Scaled.{scaled-le}
 use Rattle.nec_encoder.proofs.ticks.Statement.{statement}
 use Rattle.nec_encoder.proofs.ticks.Tie as tie
 
-cast-result : tie.Need-cast-result
-cast-result c = record { fits = omega (arith, scaled-le (c .before .args .length) (c .before .args .rate) (omega arith)) }
-
 pub ticks-spec : {M : Type 1} → statement M
-ticks-spec = tie.close (tie.spec (λ c κs. search needs) cast-result (λ c. search needs))
+ticks-spec =
+    tie.close
+    (tie.spec
+    (λ c κs. search needs)
+    (λ c. record { fits = omega (arith, scaled-le (c .before .args .length) (c .before .args .rate) (omega arith)) })
+    (λ c. search needs))

@@ -1,4 +1,4 @@
--- `nec_encoder::write` meets its contract: the leader, the pause and the pairs are laid one behind the other. Assumes nothing.
+-- `nec_encoder::write` meets its contract: the leader, the pause and the pairs are laid one after the other. Assumes nothing.
 use mathlib.Core.Path.{ap, _∙_}
 use mathlib.Core.List.{[], _∷_}
 use native.Mathlib.Omega.{arith}
@@ -9,16 +9,10 @@ use borrow.Author.Needs.{needs}
 use Rattle.nec_encoder.proofs.write.Statement.{statement}
 use Rattle.nec_encoder.proofs.write.Tie as tie
 
-slice-write-out-2 : tie.Need-slice-write-out-2
-slice-write-out-2 c = let out = c .before .before .before .before .before .args .out .now in omega (arith, length-set out 0 0)
-
 slice-write-out-3 : tie.Need-slice-write-out-3
 slice-write-out-3 c =
     let out = c .before .before .before .before .before .args .out .now in
     omega (arith, length-sets out 0 (0 ∷ c .before .before .before .ticks .result ∷ []))
-
-same-length : tie.Need-same-length
-same-length c = ap length (c .before .before .put-bits .ensures) ∙ simp (length-sets, length-set)
 
 returns : tie.Need-returns
 unfolding frameOf
@@ -35,8 +29,8 @@ write-spec =
     (λ c κs. search needs)
     (λ c κs. search needs)
     (λ c. search needs)
-    slice-write-out-2
+    (λ c. let out = c .before .before .before .before .before .args .out .now in omega (arith, length-set out 0 0))
     slice-write-out-3
     (λ c κs. search needs)
-    same-length
+    (λ c. ap length (c .before .before .put-bits .ensures) ∙ simp (length-sets, length-set))
     returns)

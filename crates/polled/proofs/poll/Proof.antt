@@ -18,7 +18,7 @@ use ghost.Atoms.{Atoms}
 use contract.Monad.{Fun, fact}
 use contract.Running.{givenOf, tables, tablesOf}
 use types.Kit.{Given, Item, atRet, ‵, raw, some, later, _⊛_, ⋆, _$_, _∵_, !, qed, by, move, keep, drop, use1, use2, use3, split, join, pick, rewrite, fsplit, fsplit3, fjoin, fjoin3, feqI, suffices, frame, await, done}
-use types.Run.{look, init, forget, stop, hop, fld, from, load, lit, of-opd, addr, bin, and-then, no-more, assigns, land, first, branches, skips, exec, returns-within, returns, enter, alloc1, alloc0, params1, pass1, pass0, free1, free0}
+use types.Run.{look, init, forget, stop, hop, fld, from, load, of-opd, addr, bin, and-then, no-more, assigns, land, first, branches, skips, exec, returns-within, returns, enter, alloc1, alloc0, params1, pass1, pass0, free1, free0}
 use types.Part.{whole, sub, look-in, store-in}
 use types.SemTy.{Body as Lent}
 use sound.WpLaws.{FmC, fmOf, WpFn-mono}
@@ -30,7 +30,7 @@ use denote.Plain.{bool-vals, bool-tells, bool-makes}
 use denote.Builtin.{bool}
 use denote.Ref.{RefT, MutRef, ShrRef, ptr-vals, mut-tells}
 use denote.Signature.{plain}
-use denote.Steps.{only, opens, closes, owned, peeks, facts, heard, nothing}
+use denote.Steps.{opens, closes, owned, peeks, facts, heard, nothing}
 use denote.Struct.Steps.{spelt}
 use denote.Struct.Laws as LL
 use denote.Enum.Laws as EL
@@ -47,7 +47,7 @@ use Rattle.polled.specs.PolledSteps.{stepOf}
 use Rattle.polled.specs.declared.Polled.{Polled}
 use Rattle.polled.specs.declared.PolledTotal.{PolledTotal}
 use Rattle.polled.specs.declared.Stepped.{Stepped}
-use Rattle.polled.proofs.Polls.{stored, step-stored, kept, step-kept}
+use Rattle.polled.proofs.Polls.{stored, step-stored, decoderStays, step-stays}
 use Rattle.polled.proofs.Polled as T
 use Rattle.polled.proofs.Polled.Laws as T′
 use Rattle.polled.proofs.Stepped as G
@@ -61,7 +61,7 @@ use Rattle.polled.proofs.poll.Key.{name as #poll}
 use Rattle.polled.proofs.poll as poll
 use Rattle.polled.proofs.poll.Statement as stated
 use Rattle.polled.proofs.poll.Code as code
-use Rattle.polled.proofs.Record.{Fields, Ends, row, row-ty, row-ref-ty, stepped-ty, mach, memory-ty, polled-ty, ref-ty, report-ty, bared, covered, fields, stepped-report, stepped-memory, stepped-clock, stepped-edge, stepped-level, stepped-fits, stepped-tells, mach-tells, memory-fits, report-fits, whole-of}
+use Rattle.polled.proofs.Record.{Fields, Ends, row, row-ty, row-ref-ty, stepped-ty, mach, memory-ty, polled-ty, ref-ty, report-ty, bared, covered, fields, stepped-report, stepped-memory, stepped-clock, stepped-last-edge, stepped-level, stepped-fits, stepped-tells, mach-tells, memory-fits, report-fits, whole-of}
 use Rattle.polled.proofs.Ends.{array, low-at, high-at, lends, comes-back, Rest, ends-out, ends-back}
 use Rattle.polled.proofs.Calls.{Step as Steps, passed, to-step, steps-in, steps-said}
 
@@ -128,14 +128,14 @@ module _ {M : Type 1} (𝓤 : URA M) (H : Heap 𝓤) (A : Atoms 𝓤) (W : Given
       owned ! E.the-row (Is E.the-row) (EL.makes E.the-type E′.the-plain 𝓤 H A) (r .report) _ is $ done !
 
   -- what is stored: all but the decoder where the level is unchanged, else all but the spans
-  kept-is : (r : Stepped) (v : Val) → Is G.the-row r (v ∷ []) → Fields h → Is T.the-row (kept h r .receiver) (mach (kept h r .receiver) ∷ [])
-  kept-is r v is f = whole-of (kept h r .receiver) (f .0, f .1, f .2, stepped-clock r v is, stepped-edge r v is, stepped-level r v is)
+  stays-is : (r : Stepped) (v : Val) → Is G.the-row r (v ∷ []) → Fields h → Is T.the-row (decoderStays h r .receiver) (mach (decoderStays h r .receiver) ∷ [])
+  stays-is r v is f = whole-of (decoderStays h r .receiver) (f .0, f .1, f .2, stepped-clock r v is, stepped-last-edge r v is, stepped-level r v is)
 
-  kept-says : (r : Stepped) → Bool·beq (h .level) l ≡ true → r ≡ stepOf h l → kept h r ≡ pollOf h l
-  kept-says r same e = ap (kept h) e ∙ step-kept h l same
+  stays-says : (r : Stepped) → Bool·beq (h .level) l ≡ true → r ≡ stepOf h l → decoderStays h r ≡ pollOf h l
+  stays-says r same e = ap (decoderStays h) e ∙ step-stays h l same
 
   stored-is : (r : Stepped) (v : Val) → Is G.the-row r (v ∷ []) → Fields h → Is T.the-row (stored h r .receiver) (mach (stored h r .receiver) ∷ [])
-  stored-is r v is f = whole-of (stored h r .receiver) (f .0, f .1, stepped-memory r v is, stepped-clock r v is, stepped-edge r v is, stepped-level r v is)
+  stored-is r v is f = whole-of (stored h r .receiver) (f .0, f .1, stepped-memory r v is, stepped-clock r v is, stepped-last-edge r v is, stepped-level r v is)
 
   stored-says : (r : Stepped) → r ≡ stepOf h l → stored h r ≡ pollOf h l
   stored-says r e = ap (stored h) e ∙ step-stored h l
@@ -183,18 +183,18 @@ module _ {M : Type 1} (𝓤 : URA M) (H : Heap 𝓤) (A : Atoms 𝓤) (W : Given
         peeks ! G.the-row (Is G.the-row) (shows 𝓤 H A G.the-row) r (v ∷ []) (λ is.
         land ! (from ! (stop !)) (init ! 13 refl (stepped-fits 𝓤 H A W r v is)) $ rewrite ! 13 (λ (u : Val). ‵ (fat fullShare stepped-ty l₇ 0 u)) (stepped-tells r v is) refl $ drop ! $
         assigns ! (of-opd ! (load ! (from ! (fld ! refl (stop !))) (look-in ! 12 (sub ! 1 refl (whole !))))) (from ! (hop ! (look ! 24 refl) (fld ! refl (stop !)))) (store-in ! 0 (sub ! 1 refl (whole !)) (tt, record { fits = stepped-clock r v is .1 })) $
-        assigns ! (of-opd ! (load ! (from ! (fld ! refl (stop !))) (look-in ! 12 (sub ! 2 refl (whole !))))) (from ! (hop ! (look ! 24 refl) (fld ! refl (stop !)))) (store-in ! 0 (sub ! 2 refl (whole !)) (tt, record { fits = stepped-edge r v is .1 })) $
+        assigns ! (of-opd ! (load ! (from ! (fld ! refl (stop !))) (look-in ! 12 (sub ! 2 refl (whole !))))) (from ! (hop ! (look ! 24 refl) (fld ! refl (stop !)))) (store-in ! 0 (sub ! 2 refl (whole !)) (tt, record { fits = stepped-last-edge r v is .1 })) $
         assigns ! (of-opd ! (load ! (from ! (fld ! refl (stop !))) (look-in ! 12 (sub ! 3 refl (whole !))))) (from ! (hop ! (look ! 24 refl) (fld ! refl (stop !)))) (store-in ! 0 (sub ! 3 refl (whole !)) (tt, tt)) $
         assigns ! (bin ! (load ! (from ! (stop !)) (look ! 14 refl)) (load ! (from ! (stop !)) (look ! 22 refl)) tt) (from ! (stop !)) (init ! 6 refl (tt, tt)) $
         first ! $ branches ! (load ! (from ! (stop !)) (look ! 6 refl))
         -- an unchanged level
         (λ same. assigns ! (of-opd ! (load ! (from ! (fld ! refl (stop !))) (look-in ! 12 (sub ! 0 refl (whole !))))) (from ! (stop !)) (init ! 26 refl (report-fits 𝓤 H A W (r .report) (stepped-report r v is))) $
-        owned ! T.the-row (Is T.the-row) (LL.makes T.the-type T′.the-plain 𝓤 H A) (kept h r .receiver) _ (kept-is r v is (fields h was)) $
-        move ! (1 ∷ []) $ use1 W (‵ (cellAt fullShare (T.the-row .mir) (mach (kept h r .receiver) ∷ []) b o)) (covered 𝓤 H A W (kept h r .receiver) b o) $
-        closes ! tt T.the-row (kept h r .receiver) (mach (kept h r .receiver) ∷ []) b o $
+        owned ! T.the-row (Is T.the-row) (LL.makes T.the-type T′.the-plain 𝓤 H A) (decoderStays h r .receiver) _ (stays-is r v is (fields h was)) $
+        move ! (1 ∷ []) $ use1 W (‵ (cellAt fullShare (T.the-row .mir) (mach (decoderStays h r .receiver) ∷ []) b o)) (covered 𝓤 H A W (decoderStays h r .receiver) b o) $
+        closes ! tt T.the-row (decoderStays h r .receiver) (mach (decoderStays h r .receiver) ∷ []) b o $
         returns-within ! Post refl (look ! 25 refl) $ forget ! 5 refl $ forget ! 7 refl $ forget ! 9 refl $ forget ! 11 refl $ forget ! 13 refl $ forget ! 15 refl $ forget ! 17 refl $ forget ! 19 refl $ forget ! 21 refl $ forget ! 23 refl $ forget ! 25 refl $
         move ! (25 ∷ 26 ∷ []) $ free1 ! $ move ! (23 ∷ 24 ∷ []) $ free1 ! $ move ! (21 ∷ 22 ∷ []) $ free1 ! $ move ! (19 ∷ 20 ∷ []) $ free1 ! $ move ! (17 ∷ 18 ∷ []) $ free1 ! $ move ! (15 ∷ 16 ∷ []) $ free1 ! $ move ! (13 ∷ 14 ∷ []) $ free1 ! $ move ! (11 ∷ 12 ∷ []) $ free1 ! $ move ! (9 ∷ 10 ∷ []) $ free1 ! $ move ! (7 ∷ 8 ∷ []) $ free1 ! $ move ! (5 ∷ 6 ∷ []) $ free1 ! $ free0 ! $
-        keep ! (0 ∷ 1 ∷ 2 ∷ []) $ by ! (exits (kept h r) _ (stepped-report r v is) (kept-says r (is-true _ same) e)))
+        keep ! (0 ∷ 1 ∷ 2 ∷ []) $ by ! (exits (decoderStays h r) _ (stepped-report r v is) (stays-says r (is-true _ same) e)))
         -- a change
         (λ other. skips ! $ exec ! C Λ (En l₀ l₁ l₂ l₃ l₄ l₅ l₆ l₇ l₈ l₉ l₁₀) changes (atRet (En l₀ l₁ l₂ l₃ l₄ l₅ l₆ l₇ l₈ l₉ l₁₀) Post) $
         assigns ! (of-opd ! (load ! (from ! (fld ! refl (stop !))) (look-in ! 12 (sub ! 4 refl (whole !))))) (from ! (hop ! (look ! 24 refl) (fld ! refl (fld ! refl (stop !))))) (store-in ! 0 (sub ! 1 refl (sub ! 0 refl (whole !))) (memory-fits 𝓤 H A W (r .memory) (stepped-memory r v is))) $

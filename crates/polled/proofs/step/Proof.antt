@@ -1,25 +1,32 @@
 -- `polled::step` meets its contract: its two tests pick the definition's branch. Assumes nothing.
-use mathlib.Core.Path.{sym, ap, _∙_}
+use mathlib.Core.Path.{_≡_, refl, sym, ap, _∙_}
+use mathlib.Core.Bool.{Bool, cond}
 use borrow.Author.Needs.{needs}
+use Rattle.refusals.specs.Refusals as refusal
+use Rattle.spans.specs.Spans.{ends}
 use Rattle.polled.specs.PolledSteps.{receiverOf, partOf}
 use Rattle.polled.proofs.Polls.{refused, unchanged, changed, run-length}
 use Rattle.polled.proofs.step.Statement.{statement}
 use Rattle.polled.proofs.step.Tie as tie
 
+-- the refusal number, from what past_end told
+number : {past told : Bool} → past ≡ told → cond past refusal.pastEnd 0 ≡ cond told refusal.pastEnd 0
+number e = ap (λ (past : Bool). cond past refusal.pastEnd 0) e
+
 returns : tie.Need-returns
 returns c =
     let p = c .before .before in
     let a = p .before .args in
-    let z = receiverOf (a .low .now) (a .high .now) (a .memory) (a .clock) (a .edge) (a .was) in
-    c .kept .ensures ∙ sym (ap partOf (refused z (a .level) (sym (p .past-end .ensures) ∙ c .before .if1 .taken)))
+    let z = receiverOf (ends (a .low .now) (a .high .now)) (a .memory) (a .clock) (a .last-edge) (a .was) in
+    c .without-edge .ensures ∙ sym (ap partOf (refused z (a .level) (number (sym (p .past-end .ensures) ∙ c .before .if1 .taken)) refl))
 
 returns-2 : tie.Need-returns-2
 returns-2 c =
     let n = c .before .before in
     let o = n .before in
     let a = o .before .before .args in
-    let z = receiverOf (a .low .now) (a .high .now) (a .memory) (a .clock) (a .edge) (a .was) in
-    simp (c .kept2 .ensures, unchanged z (a .level) (sym (o .before .past-end .ensures) ∙ o .if1 .left) (c .before .if2 .taken), n .wrapping-add-u32 .ensures)
+    let z = receiverOf (ends (a .low .now) (a .high .now)) (a .memory) (a .clock) (a .last-edge) (a .was) in
+    simp (c .without-edge2 .ensures, unchanged z (a .level) (number (sym (o .before .past-end .ensures) ∙ o .if1 .left)) (c .before .if2 .taken), n .wrapping-add-u32 .ensures)
 
 returns-3 : tie.Need-returns-3
 returns-3 c =
@@ -28,9 +35,9 @@ returns-3 c =
     let n = e .before in
     let o = n .before in
     let a = o .before .before .args in
-    let z = receiverOf (a .low .now) (a .high .now) (a .memory) (a .clock) (a .edge) (a .was) in
+    let z = receiverOf (ends (a .low .now) (a .high .now)) (a .memory) (a .clock) (a .last-edge) (a .was) in
     simp (
-      changed z (a .level) (sym (o .before .past-end .ensures) ∙ o .if1 .left) (e .if2 .left),
+      changed z (a .level) (number (sym (o .before .past-end .ensures) ∙ o .if1 .left)) (e .if2 .left),
       c .total-in .ensures,
       run-length _ _ _ (s .wrapping-sub-u32 .ok) (search needs) (s .wrapping-sub-u32 .ensures),
       n .wrapping-add-u32 .ensures,

@@ -11,8 +11,5 @@ use Rattle.rc5_encoder.proofs.changes.Tie as tie
 word-is : (bits : ℕ) → bitOr (bitAnd bits 8191) 8192 ≡ wordOf bits
 word-is bits = ap (λ (low : ℕ). bitOr low 8192) (and-mask bits 13) ∙ or-shifted-r 1 13 (bits % 8192) (mod-lt bits (omega arith))
 
-returns : tie.Need-returns
-returns c = ap (λ (word : ℕ). bitXor word (word / 2)) (word-is (c .args .bits))
-
 pub changes-spec : {M : Type 1} → statement M
-changes-spec = tie.close (tie.spec returns)
+changes-spec = tie.close (tie.spec (λ c. ap (λ (word : ℕ). bitXor word (word / 2)) (word-is (c .args .bits))))

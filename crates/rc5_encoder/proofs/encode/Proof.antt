@@ -32,9 +32,6 @@ cast-single c =
     let taken = sym (c .before .before .before .before .before .rate-taken .ensures) ∙ not-false _ (c .before .before .before .before .if1 .left) in
     record { fits = omega (arith, scaled-le 889 rate (rate-le rate taken)) }
 
-slice-write-out : tie.Need-slice-write-out
-slice-write-out c = omega (arith, c .before .before .count .ensures, at-least (c .before .before .before .pack .result) 0)
-
 put-bits-requires : tie.Need-put-bits-requires
 put-bits-requires c κs =
     let start = c .before .before .before .before .before .before .before .before .args in
@@ -43,9 +40,6 @@ put-bits-requires c κs =
     let taken = sym (c .before .before .before .before .before .before .rate-taken .ensures) ∙ not-false _ (c .before .before .before .before .before .if1 .left) in
     let counted = needed-is (c .before .before .before .count .result) bits bits single (c .before .before .before .count .ensures) refl in
     (omega (arith, c .before .scale .ensures, scaled-le 889 (start .rate) (rate-le (start .rate) taken)), omega (arith, counted, length-set (start .out .now) 0 0))
-
-same-length : tie.Need-same-length
-same-length c = ap length (c .before .before .put-bits .ensures) ∙ simp (length-sets, length-set)
 
 returns-3 : tie.Need-returns-3
 unfolding frameOf
@@ -69,7 +63,7 @@ encode-spec =
     returns-2
     (λ c κs. search needs)
     cast-single
-    slice-write-out
+    (λ c. omega (arith, c .before .before .count .ensures, at-least (c .before .before .before .pack .result) 0))
     put-bits-requires
-    same-length
+    (λ c. ap length (c .before .before .put-bits .ensures) ∙ simp (length-sets, length-set))
     returns-3)

@@ -6,14 +6,11 @@ use Rattle.rc6_encoder.proofs.Frame.{counted}
 use Rattle.rc6_encoder.proofs.count.Statement.{statement}
 use Rattle.rc6_encoder.proofs.count.Tie as tie
 
-sub-result : tie.Need-sub-result
-sub-result c = omega (arith, counted (c .args .word) (c .pre))
-
-sub-result-2 : tie.Need-sub-result-2
-sub-result-2 c = omega (arith, counted (c .args .word) (c .pre), and-mask (c .args .word) 1)
-
-returns : tie.Need-returns
-returns c = omega (arith, counted (c .args .word) (c .pre), and-mask (c .args .word) 1)
-
 pub count-spec : {M : Type 1} → statement M
-count-spec = tie.close (tie.spec sub-result sub-result-2 (λ c. search needs) returns)
+count-spec =
+    tie.close
+    (tie.spec
+    (λ c. omega (arith, counted (c .args .word) (c .pre)))
+    (λ c. omega (arith, counted (c .args .word) (c .pre), and-mask (c .args .word) 1))
+    (λ c. search needs)
+    (λ c. omega (arith, counted (c .args .word) (c .pre), and-mask (c .args .word) 1)))

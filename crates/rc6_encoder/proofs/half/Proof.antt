@@ -3,11 +3,5 @@ use borrow.Author.Tests.{eq-eqb, ne-eqb}
 use Rattle.rc6_encoder.proofs.half.Statement.{statement}
 use Rattle.rc6_encoder.proofs.half.Tie as tie
 
-returns : tie.Need-returns
-returns c = simp (eq-eqb _ _ (c .if1 .taken))
-
-returns-2 : tie.Need-returns-2
-returns-2 c = simp (ne-eqb _ _ (c .if1 .left))
-
 pub half-spec : {M : Type 1} → statement M
-half-spec = tie.close (tie.spec returns returns-2)
+half-spec = tie.close (tie.spec (λ c. simp (eq-eqb _ _ (c .if1 .taken))) (λ c. simp (ne-eqb _ _ (c .if1 .left))))

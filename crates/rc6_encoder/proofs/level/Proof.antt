@@ -10,13 +10,15 @@ mul-out c =
     let start = c .before .before in
     record { fits = omega (arith, mul-le-mul-left (start .args .stretch .units) (start .pre .3)) }
 
-returns : tie.Need-returns
-returns c = (simp (c .before .if1 .taken, add-zero), simp (c .before .if1 .taken))
-
-returns-2 : tie.Need-returns-2
-returns-2 c = (simp (c .before .if1 .left), simp (c .before .if1 .left))
-
 pub level-spec : {M : Type 1} → statement M
 level-spec =
     tie.close
-    (tie.spec (λ c. search needs) mul-out (λ c. search needs) (λ c. search needs) (λ c. search needs) returns (λ c. search needs) returns-2)
+    (tie.spec
+    (λ c. search needs)
+    mul-out
+    (λ c. search needs)
+    (λ c. search needs)
+    (λ c. search needs)
+    (λ c. (simp (c .before .if1 .taken, add-zero), simp (c .before .if1 .taken)))
+    (λ c. search needs)
+    (λ c. (simp (c .before .if1 .left), simp (c .before .if1 .left))))

@@ -1,4 +1,4 @@
--- `rc6_encoder::put_bits` meets its contract. The loop's invariant: the bits still to come, laid behind what stands, give the whole. Assumes nothing.
+-- `rc6_encoder::put_bits` meets its contract. The loop's invariant: the bits still to come, laid after what stands, give the whole. Assumes nothing.
 use mathlib.Core.Path.{_≡_, ap, _∙_}
 use Prim.Native.Nat.{_≤_, _+_, _-_}
 use native.Mathlib.Omega.{arith}

@@ -15,8 +15,5 @@ word-is true bits h =
     ap (λ (low : ℕ). bitOr low 3145728) (or-shifted-r 1 16 bits h) ∙ or-shifted-r 24 17 (65536 + bits) (omega arith) ∙ omega arith
 word-is false bits h = ap (λ (low : ℕ). bitOr low 3145728) (or-shifted-r 0 16 bits h) ∙ or-shifted-r 24 17 (0 + bits) (omega arith) ∙ omega arith
 
-returns : tie.Need-returns
-returns c = word-is (c .args .toggle) (c .args .bits) (search needs)
-
 pub word-spec : {M : Type 1} → statement M
-word-spec = tie.close (tie.spec (λ c. search needs) returns)
+word-spec = tie.close (tie.spec (λ c. search needs) (λ c. word-is (c .args .toggle) (c .args .bits) (search needs)))

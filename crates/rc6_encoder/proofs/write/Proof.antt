@@ -1,4 +1,4 @@
--- `rc6_encoder::write` meets its contract: the leader, the bits and a closing high are laid one behind the other. Assumes nothing.
+-- `rc6_encoder::write` meets its contract: the leader, the bits and a closing high are laid one after the other. Assumes nothing.
 use mathlib.Core.Path.{ap}
 use native.Mathlib.Nat.{mul-le-mul-left}
 use native.Mathlib.Omega.{arith}
@@ -30,9 +30,6 @@ slice-write-out c =
     let last = c .before .before .before .before .put-bits in
     closing-at (args .unit) (args .word) (args .out .now) (first .last .0) (first .result) (first .ensures .0) (first .ensures .1) (last .last .0) (last .result)
     (last .ensures .1 .0) (last .ensures .1 .1) (c .before .if1 .taken) (c .before .before .before .before .before .before .before .before .before .before .before .pre .0)
-
-mul-out-2 : tie.Need-mul-out-2
-mul-out-2 c = record { fits = omega (arith, slice-write-out c) }
 
 same-length : tie.Need-same-length
 same-length c =
@@ -67,7 +64,7 @@ write-spec =
     (λ c κs. search needs)
     put-bits-requires
     mul-out
-    mul-out-2
+    (λ c. record { fits = omega (arith, slice-write-out c) })
     slice-write-out
     same-length
     returns

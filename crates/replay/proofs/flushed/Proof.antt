@@ -5,15 +5,12 @@ use lib.ListN.{length-take}
 use Rattle.replay.proofs.flushed.Statement.{statement}
 use Rattle.replay.proofs.flushed.Tie as tie
 
-slice-aggregate-write-all : tie.Need-slice-aggregate-write-all
-slice-aggregate-write-all c = simp length-take (omega arith)
-
 pub flushed-spec : {M : Type 1} → statement M
 flushed-spec =
     tie.close
     (tie.spec
     (λ c. search needs)
-    slice-aggregate-write-all
+    (λ c. simp length-take (omega arith))
     (λ c κs. search needs)
     (λ c. search needs)
     (λ c. search needs)

@@ -11,12 +11,6 @@ Inv-loop text₀ numbers₀ buf₀ state₀ input₀ left₀ text numbers buf st
 abbrev μ-loop : tie.MeasureT-loop
 μ-loop text₀ numbers₀ buf₀ state₀ input₀ left₀ text numbers buf state input left = left
 
-loop-holds : tie.Need-loop-holds Inv-loop μ-loop
-loop-holds c = (refl, refl)
-
-loop-again : tie.Need-loop-again Inv-loop μ-loop
-loop-again c = (search needs, search needs)
-
 pub read-all-spec : {M : Type 1} → statement M
 read-all-spec =
     tie.close
@@ -24,7 +18,7 @@ read-all-spec =
     Inv-loop
     μ-loop
     (λ c κs. search needs)
-    loop-holds
+    (λ c. (refl, refl))
     (λ c κs. search needs)
     (λ c κs. search needs)
     (λ c. search needs)
@@ -39,7 +33,7 @@ read-all-spec =
     (λ c. search needs)
     (λ c. search needs)
     (λ c. search needs)
-    loop-again
+    (λ c. (search needs, search needs))
     (λ c. search needs)
     (λ c. search needs)
     (λ c. search needs))

@@ -1,4 +1,4 @@
--- `rows::put_bounds` meets its contract: its parts are put one behind the other. Assumes nothing.
+-- `rows::put_bounds` meets its contract: its parts are put one after the other. Assumes nothing.
 use Rattle.text.proofs.Puts.{two}
 use Rattle.rows.specs.Rows.{boundsText}
 use borrow.Author.Needs.{needs}
@@ -9,9 +9,9 @@ returns : tie.Need-returns
 unfolding boundsText
 returns c =
     let gap = c .before .before in
-    let wrong = gap .before .before .before .before in
-    let silence = wrong .before .before .before .before in
-    let p1 = two _ _ _ _ _ _ _ _ (silence .put-right .ensures) (wrong .put-right2 .ensures) in
+    let deviation = gap .before .before .before .before in
+    let silence = deviation .before .before .before .before in
+    let p1 = two _ _ _ _ _ _ _ _ (silence .put-right .ensures) (deviation .put-right2 .ensures) in
     two _ _ _ _ _ _ _ _ p1 (gap .put-gap .ensures)
 
 pub put-bounds-spec : {M : Type 1} → statement M

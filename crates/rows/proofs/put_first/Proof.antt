@@ -2,7 +2,8 @@
 use mathlib.Core.Path.{sym, _∙_}
 use Rattle.text.proofs.Puts.{two, same, picked}
 use Rattle.rows.specs.Rows.{firstText}
-use Rattle.rows.proofs.Letters.{spelled, nothing}
+use Rattle.text.proofs.Shown.{spelled}
+use Rattle.rows.proofs.Letters.{nothing}
 use borrow.Author.Needs.{needs}
 use Rattle.rows.proofs.put_first.Statement.{statement}
 use Rattle.rows.proofs.put_first.Tie as tie

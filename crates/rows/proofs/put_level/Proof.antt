@@ -3,30 +3,24 @@ use mathlib.Core.Path.{sym, ap}
 use mathlib.Core.Bool.{Bool}
 use Rattle.text.proofs.Puts.{same}
 use Rattle.rows.specs.Rows.{levelText}
-use Rattle.rows.proofs.Letters.{spelled, rise, fall}
+use Rattle.text.proofs.Shown.{spelled}
+use Rattle.rows.proofs.Letters.{rise, fall}
 use borrow.Author.Needs.{needs}
 use Rattle.rows.proofs.put_level.Statement.{statement}
 use Rattle.rows.proofs.put_level.Tie as tie
 
-returns : tie.Need-returns
-unfolding levelText
-returns c =
-    let put = c .before .before in
-    same _ _ _ _ _ _ (ap (λ (rising : Bool). levelText rising) (sym (put .before .before .if1 .taken))) (spelled _ _ _ _ _ _ rise (put .put-letters .ensures))
-
-returns-2 : tie.Need-returns-2
-unfolding levelText
-returns-2 c =
-    let put = c .before .before in
-    same _ _ _ _ _ _ (ap (λ (rising : Bool). levelText rising) (sym (put .before .before .if1 .left))) (spelled _ _ _ _ _ _ fall (put .put-letters2 .ensures))
-
 pub put-level-spec : {M : Type 1} → statement M
+unfolding levelText
 put-level-spec =
     tie.close
     (tie.spec
     (λ c κs. search needs)
     (λ c κs. search needs)
     (λ c. search needs)
-    returns
+    (λ c.
+    let put = c .before .before in
+    same _ _ _ _ _ _ (ap (λ (rising : Bool). levelText rising) (sym (put .before .before .if1 .taken))) (spelled _ _ _ _ _ _ rise (put .put-letters .ensures)))
     (λ c. search needs)
-    returns-2)
+    (λ c.
+    let put = c .before .before in
+    same _ _ _ _ _ _ (ap (λ (rising : Bool). levelText rising) (sym (put .before .before .if1 .left))) (spelled _ _ _ _ _ _ fall (put .put-letters2 .ensures))))

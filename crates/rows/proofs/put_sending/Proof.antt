@@ -1,4 +1,4 @@
--- `rows::put_sending` meets its contract: its parts are put one behind the other. Assumes nothing.
+-- `rows::put_sending` meets its contract: its parts are put one after the other. Assumes nothing.
 use Rattle.text.proofs.Puts.{two}
 use Rattle.rows.specs.Rows.{sendText}
 use borrow.Author.Needs.{needs}

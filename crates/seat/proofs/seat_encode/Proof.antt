@@ -24,13 +24,13 @@ carried (Short needed) held one = refl
 
 returns : tie.Need-returns
 returns c =
-    let answer = c .before .before .before .before .before .encode .ensures in
+    let answer = c .before .before .before .before .before .encode-by .ensures in
     let refused = c .before .encoded .given .1 in
     (simp (← answer .0, refused), (simp (← answer .0, refused), answer .1))
 
 returns-2 : tie.Need-returns-2
 returns-2 c =
-    let encode = c .before .before .before .before .before .encode in
+    let encode = c .before .before .before .before .before .encode-by in
     let held = now (c .before .before .before .before .before .before .before .before .args .length) in (
       simp (← encode .ensures .0) (c .encoded-number .ensures),
       (simp (← encode .ensures .0) (c .before .encoded-length .ensures ∙ carried (encode .result) held (c .before .before .match .keys2)), encode .ensures .1),

@@ -3,11 +3,11 @@ use borrow.Author.Needs.{needs}
 use Rattle.slots.proofs.asked.Statement.{statement}
 use Rattle.slots.proofs.asked.Tie as tie
 
-returns : tie.Need-returns
-returns c = simp (c .before .before .if1 .taken, c .asked-in .ensures)
-
-returns-2 : tie.Need-returns-2
-returns-2 c = simp (c .before .if1 .left, c .not-open .ensures)
-
 pub asked-spec : {M : Type 1} → statement M
-asked-spec = tie.close (tie.spec (λ c κs. search needs) returns (λ c κs. search needs) returns-2)
+asked-spec =
+    tie.close
+    (tie.spec
+    (λ c κs. search needs)
+    (λ c. simp (c .before .before .if1 .taken, c .asked-in .ensures))
+    (λ c κs. search needs)
+    (λ c. simp (c .before .if1 .left, c .not-open .ensures)))

@@ -3,8 +3,5 @@ use borrow.Author.Needs.{needs}
 use Rattle.slots.proofs.closed.Statement.{statement}
 use Rattle.slots.proofs.closed.Tie as tie
 
-returns : tie.Need-returns
-returns c = simp (c .before .new .ensures)
-
 pub closed-spec : {M : Type 1} → statement M
-closed-spec = tie.close (tie.spec (λ c κs. search needs) returns)
+closed-spec = tie.close (tie.spec (λ c κs. search needs) (λ c. simp (c .before .new .ensures)))

@@ -3,8 +3,11 @@ use borrow.Author.Needs.{needs}
 use Rattle.slots.proofs.command.Statement.{statement}
 use Rattle.slots.proofs.command.Tie as tie
 
-returns : tie.Need-returns
-returns c = simp (c .held-by .ensures, c .before .of-report .ensures, c .before .before .command .ensures)
-
 pub command-spec : {M : Type 1} → statement M
-command-spec = tie.close (tie.spec (λ c κs. search needs) (λ c κs. search needs) (λ c κs. search needs) returns)
+command-spec =
+    tie.close
+    (tie.spec
+    (λ c κs. search needs)
+    (λ c κs. search needs)
+    (λ c κs. search needs)
+    (λ c. simp (c .held-by .ensures, c .before .of-report .ensures, c .before .before .command .ensures)))

@@ -3,8 +3,5 @@ use borrow.Author.Needs.{needs}
 use Rattle.slots.proofs.head_of.Statement.{statement}
 use Rattle.slots.proofs.head_of.Tie as tie
 
-returns : tie.Need-returns
-returns c = simp (c .before .asked2 .ensures, c .before .before .before .before .asked .ensures)
-
 pub head-of-spec : {M : Type 1} → statement M
-head-of-spec = tie.close (tie.spec (λ c κs. search needs) (λ c κs. search needs) returns)
+head-of-spec = tie.close (tie.spec (λ c κs. search needs) (λ c κs. search needs) (λ c. simp (c .before .asked2 .ensures, c .before .before .before .before .asked .ensures)))

@@ -3,8 +3,11 @@ use borrow.Author.Needs.{needs}
 use Rattle.slots.proofs.idle.Statement.{statement}
 use Rattle.slots.proofs.idle.Tie as tie
 
-returns : tie.Need-returns
-returns c = simp (c .held-by .ensures, c .before .text .ensures, c .before .before .wrapping-add-u32 .ensures)
-
 pub idle-spec : {M : Type 1} → statement M
-idle-spec = tie.close (tie.spec (λ c κs. search needs) (λ c κs. search needs) (λ c κs. search needs) returns)
+idle-spec =
+    tie.close
+    (tie.spec
+    (λ c κs. search needs)
+    (λ c κs. search needs)
+    (λ c κs. search needs)
+    (λ c. simp (c .held-by .ensures, c .before .text .ensures, c .before .before .wrapping-add-u32 .ensures)))

@@ -3,8 +3,5 @@ use borrow.Author.Needs.{needs}
 use Rattle.slots.proofs.opened.Statement.{statement}
 use Rattle.slots.proofs.opened.Tie as tie
 
-returns : tie.Need-returns
-returns c = simp (c .opened-by .ensures, c .before .new .ensures)
-
 pub opened-spec : {M : Type 1} → statement M
-opened-spec = tie.close (tie.spec (λ c κs. search needs) (λ c κs. search needs) returns)
+opened-spec = tie.close (tie.spec (λ c κs. search needs) (λ c κs. search needs) (λ c. simp (c .opened-by .ensures, c .before .new .ensures)))

@@ -4,12 +4,6 @@ use borrow.Author.Needs.{needs}
 use Rattle.slots.proofs.opened_by.Statement.{statement}
 use Rattle.slots.proofs.opened_by.Tie as tie
 
-returns : tie.Need-returns
-returns c = simp (sym (c .before .before .is-taken .ensures) ∙ c .before .if1 .taken, c .held-by .ensures, c .before .before .before .of-answer .ensures)
-
-returns-2 : tie.Need-returns-2
-returns-2 c = simp (sym (c .before .is-taken .ensures) ∙ c .if1 .left, c .before .before .of-answer .ensures)
-
 pub opened-by-spec : {M : Type 1} → statement M
 opened-by-spec =
-    tie.close (tie.spec (λ c κs. search needs) (λ c κs. search needs) (λ c κs. search needs) returns returns-2)
+    tie.close (tie.spec (λ c κs. search needs) (λ c κs. search needs) (λ c κs. search needs) (λ c. simp (sym (c .before .before .is-taken .ensures) ∙ c .before .if1 .taken, c .held-by .ensures, c .before .before .before .of-answer .ensures)) (λ c. simp (sym (c .before .is-taken .ensures) ∙ c .if1 .left, c .before .before .of-answer .ensures)))

@@ -3,8 +3,5 @@ use borrow.Author.Needs.{needs}
 use Rattle.slots.proofs.polled_again.Statement.{statement}
 use Rattle.slots.proofs.polled_again.Tie as tie
 
-returns : tie.Need-returns
-returns c = simp (c .first-of .ensures, c .before .before .poll-through .ensures)
-
 pub polled-again-spec : {M : Type 1} → statement M
-polled-again-spec = tie.close (tie.spec (λ c κs. search needs) (λ c κs. search needs) returns)
+polled-again-spec = tie.close (tie.spec (λ c κs. search needs) (λ c κs. search needs) (λ c. simp (c .first-of .ensures, c .before .before .poll-through .ensures)))

@@ -3,8 +3,11 @@ use borrow.Author.Needs.{needs}
 use Rattle.slots.proofs.polls.Statement.{statement}
 use Rattle.slots.proofs.polls.Tie as tie
 
-returns : tie.Need-returns
-returns c = simp (c .held-by .ensures, c .before .of-report .ensures, c .before .before .before .run-of .ensures)
-
 pub polls-spec : {M : Type 1} → statement M
-polls-spec = tie.close (tie.spec (λ c κs. search needs) (λ c κs. search needs) (λ c κs. search needs) returns)
+polls-spec =
+    tie.close
+    (tie.spec
+    (λ c κs. search needs)
+    (λ c κs. search needs)
+    (λ c κs. search needs)
+    (λ c. simp (c .held-by .ensures, c .before .of-report .ensures, c .before .before .before .run-of .ensures)))

@@ -3,9 +3,6 @@ use borrow.Author.Needs.{needs}
 use Rattle.slots.proofs.total.Statement.{statement}
 use Rattle.slots.proofs.total.Tie as tie
 
-returns : tie.Need-returns
-returns c = simp (c .held-by .ensures, c .before .with-decoder .ensures, c .before .before .of-report .ensures, c .before .before .before .before .event-total .ensures)
-
 pub total-spec : {M : Type 1} → statement M
 total-spec =
     tie.close
@@ -14,4 +11,4 @@ total-spec =
     (λ c κs. search needs)
     (λ c κs. search needs)
     (λ c κs. search needs)
-    returns)
+    (λ c. simp (c .held-by .ensures, c .before .with-decoder .ensures, c .before .before .of-report .ensures, c .before .before .before .before .event-total .ensures)))

@@ -6,11 +6,6 @@ use borrow.Author.Needs.{needs}
 use Rattle.span_rows.proofs.ends_at.Statement.{statement}
 use Rattle.span_rows.proofs.ends_at.Tie as tie
 
-returns : tie.Need-returns
-returns c =
-    let built = c .before .before .before in
-    ap (λ (answer : SpansAnswer). endsAt (answer .spans) (built .before .args .place)) (built .spans-of .ensures)
-
 pub ends-at-spec : {M : Type 1} → statement M
 ends-at-spec =
     tie.close
@@ -20,4 +15,6 @@ ends-at-spec =
     (λ c. search needs)
     (λ c. search needs)
     (λ c. search needs)
-    returns)
+    (λ c.
+    let built = c .before .before .before in
+    ap (λ (answer : SpansAnswer). endsAt (answer .spans) (built .before .args .place)) (built .spans-of .ensures)))

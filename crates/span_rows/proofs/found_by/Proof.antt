@@ -6,11 +6,8 @@ use borrow.Author.Needs.{needs}
 use Rattle.span_rows.proofs.found_by.Statement.{statement}
 use Rattle.span_rows.proofs.found_by.Tie as tie
 
-returns : tie.Need-returns
-returns c =
-    let built = c .before .before in
-    c .lookup .ensures ∙ ap (λ (answer : SpansAnswer). lookupOf (answer .spans) (built .before .args .duration)) (built .spans-of .ensures)
-
 pub found-by-spec : {M : Type 1} → statement M
 found-by-spec =
-    tie.close (tie.spec (λ c κs. search needs) (λ c κs. search needs) returns)
+    tie.close (tie.spec (λ c κs. search needs) (λ c κs. search needs) (λ c.
+    let built = c .before .before in
+    c .lookup .ensures ∙ ap (λ (answer : SpansAnswer). lookupOf (answer .spans) (built .before .args .duration)) (built .spans-of .ensures)))

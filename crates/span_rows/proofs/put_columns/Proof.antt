@@ -1,18 +1,12 @@
--- `span_rows::put_columns` meets its contract: its parts are put one behind the other. Assumes nothing.
+-- `span_rows::put_columns` meets its contract: its parts are put one after the other. Assumes nothing.
 use Rattle.text.proofs.Puts.{two}
 use Rattle.span_rows.specs.SpanRows.{columnsText}
 use borrow.Author.Needs.{needs}
 use Rattle.span_rows.proofs.put_columns.Statement.{statement}
 use Rattle.span_rows.proofs.put_columns.Tie as tie
 
-returns : tie.Need-returns
-unfolding columnsText
-returns c =
-    let high = c .before .before in
-    let low = high .before .before .before .before .before in
-    two _ _ _ _ _ _ _ _ (low .put-right .ensures) (high .put-right2 .ensures)
-
 pub put-columns-spec : {M : Type 1} → statement M
+unfolding columnsText
 put-columns-spec =
     tie.close
     (tie.spec
@@ -21,4 +15,7 @@ put-columns-spec =
     (λ c. search needs)
     (λ c κs. search needs)
     (λ c. search needs)
-    returns)
+    (λ c.
+    let high = c .before .before in
+    let low = high .before .before .before .before .before in
+    two _ _ _ _ _ _ _ _ (low .put-right .ensures) (high .put-right2 .ensures)))

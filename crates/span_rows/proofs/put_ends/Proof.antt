@@ -7,17 +7,14 @@ use borrow.Author.Needs.{needs}
 use Rattle.span_rows.proofs.put_ends.Statement.{statement}
 use Rattle.span_rows.proofs.put_ends.Tie as tie
 
-returns : tie.Need-returns
-unfolding endsText
-returns c =
-    let put = c .before .before in
-    same _ _ _ _ _ _ (ap (λ (span : Span). columnsText span) (put .before .ends-at .ensures)) (put .put-columns .ensures)
-
 pub put-ends-spec : {M : Type 1} → statement M
+unfolding endsText
 put-ends-spec =
     tie.close
     (tie.spec
     (λ c κs. search needs)
     (λ c κs. search needs)
     (λ c. search needs)
-    returns)
+    (λ c.
+    let put = c .before .before in
+    same _ _ _ _ _ _ (ap (λ (span : Span). columnsText span) (put .before .ends-at .ensures)) (put .put-columns .ensures)))

@@ -2,18 +2,12 @@
 use mathlib.Core.Path.{sym, ap}
 use Rattle.spans.specs.declared.Found.{Found}
 use Rattle.text.proofs.Puts.{two, same}
-use Rattle.rows.proofs.Letters.{spelled}
+use Rattle.text.proofs.Shown.{spelled}
 use Rattle.span_rows.specs.SpanRows.{foundText}
 use Rattle.span_rows.proofs.Letters.{blanks, none}
 use borrow.Author.Needs.{needs}
 use Rattle.span_rows.proofs.put_found.Statement.{statement}
 use Rattle.span_rows.proofs.put_found.Tie as tie
-
-returns : tie.Need-returns
-unfolding foundText
-returns c =
-    let put = c .before .before in
-    same _ _ _ _ _ _ (ap (λ (found : Found). foundText found) (sym (put .before .before .before .found .given .1))) (put .put-right .ensures)
 
 returns-2 : tie.Need-returns-2
 unfolding foundText
@@ -24,6 +18,7 @@ returns-2 c =
     (two _ _ _ _ _ _ _ _ (spelled _ _ _ _ _ _ blanks (first .put-letters .ensures)) (spelled _ _ _ _ _ _ none (other .put-letters2 .ensures)))
 
 pub put-found-spec : {M : Type 1} → statement M
+unfolding foundText
 put-found-spec =
     tie.close
     (tie.spec
@@ -34,6 +29,8 @@ put-found-spec =
     (λ c κs. search needs)
     (λ c κs. search needs)
     (λ c. search needs)
-    returns
+    (λ c.
+    let put = c .before .before in
+    same _ _ _ _ _ _ (ap (λ (found : Found). foundText found) (sym (put .before .before .before .found .given .1))) (put .put-right .ensures))
     (λ c. search needs)
     returns-2)

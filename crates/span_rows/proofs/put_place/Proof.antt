@@ -7,17 +7,14 @@ use borrow.Author.Needs.{needs}
 use Rattle.span_rows.proofs.put_place.Statement.{statement}
 use Rattle.span_rows.proofs.put_place.Tie as tie
 
-returns : tie.Need-returns
-unfolding placeText
-returns c =
-    let put = c .before .before in
-    same _ _ _ _ _ _ (ap (λ (found : Found). foundText found) (put .before .found-by .ensures)) (put .put-found .ensures)
-
 pub put-place-spec : {M : Type 1} → statement M
+unfolding placeText
 put-place-spec =
     tie.close
     (tie.spec
     (λ c κs. search needs)
     (λ c κs. search needs)
     (λ c. search needs)
-    returns)
+    (λ c.
+    let put = c .before .before in
+    same _ _ _ _ _ _ (ap (λ (found : Found). foundText found) (put .before .found-by .ensures)) (put .put-found .ensures)))

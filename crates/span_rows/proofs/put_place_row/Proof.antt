@@ -1,6 +1,6 @@
--- `span_rows::put_place_row` meets its contract: its parts are put one behind the other. Assumes nothing.
+-- `span_rows::put_place_row` meets its contract: its parts are put one after the other. Assumes nothing.
 use Rattle.text.proofs.Puts.{two}
-use Rattle.rows.proofs.Letters.{spelled}
+use Rattle.text.proofs.Shown.{spelled}
 use Rattle.span_rows.specs.SpanRows.{placeRowText}
 use Rattle.span_rows.proofs.Letters.{place}
 use borrow.Author.Needs.{needs}

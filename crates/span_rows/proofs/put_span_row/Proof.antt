@@ -1,4 +1,4 @@
--- `span_rows::put_span_row` meets its contract: its parts are put one behind the other. Assumes nothing.
+-- `span_rows::put_span_row` meets its contract: its parts are put one after the other. Assumes nothing.
 use Rattle.text.proofs.Puts.{one, two}
 use Rattle.span_rows.specs.SpanRows.{spanRowText}
 use borrow.Author.Needs.{needs}

@@ -3,8 +3,9 @@ use Prim.Native.Nat.{_-_}
 use mathlib.Core.Path.{_≡_, refl}
 use lib.ListN.{length}
 use Rattle.text.specs.Text.{putsOf}
+use Rattle.text.proofs.Puts.{ended}
 use Rattle.span_rows.specs.SpanRows.{spanRowsFrom, spanRowsText}
-use Rattle.span_rows.proofs.Rows.{row-put, rows-put}
+use Rattle.span_rows.proofs.Rows.{row-put, no-rows}
 use borrow.Author.Needs.{needs}
 use Rattle.span_rows.proofs.put_span_rows.Statement.{statement}
 use Rattle.span_rows.proofs.put_span_rows.Tie as tie
@@ -15,10 +16,6 @@ Inv-loop text₀ at rate next₀ place₀ text next place =
 
 abbrev μ-loop : tie.MeasureT-loop
 μ-loop text₀ at rate next₀ place₀ text next place = 8 - place
-
-loop-holds : tie.Need-loop-holds Inv-loop μ-loop
-unfolding spanRowsText
-loop-holds c = (refl, refl)
 
 loop-again : tie.Need-loop-again Inv-loop μ-loop
 loop-again c =
@@ -33,15 +30,16 @@ loop-again c =
 returns : tie.Need-returns Inv-loop μ-loop
 returns c =
     let loop = c .before .loop in
-    rows-put _ _ _ (loop .text) (loop .next) _ (loop .place) (c .loop-test .left) (loop .inv .1)
+    ended _ _ _ (loop .text) (loop .next) _ (no-rows _ (loop .place) (c .loop-test .left)) (loop .inv .1)
 
 pub put-span-rows-spec : {M : Type 1} → statement M
+unfolding spanRowsText
 put-span-rows-spec =
     tie.close
     (tie.spec
     Inv-loop
     μ-loop
-    loop-holds
+    (λ c. (refl, refl))
     (λ c κs. search needs)
     (λ c. search needs)
     (λ c. search needs)

@@ -3,29 +3,30 @@
 use Prim.Native.Nat.{ℕ, suc, _≤_, _<_, _+_, _-_}
 use mathlib.Core.Path.{_≡_, _∙_, sym}
 use mathlib.Core.Bool.{true, false, cond}
-use mathlib.Core.List.{List}
 use native.Mathlib.Omega.{arith}
 use borrow.Author.Needs.{needs}
-use Rattle.spans.specs.Lookup.{lookupIn, lowestFrom, holds}
-use Rattle.spans.specs.declared.Found.the-variants.{At, Nothing}
+use Rattle.spans.specs.Lookup.{lookupOf, lowestFrom, holds}
+use Rattle.spans.specs.declared.Spans.{Spans}
+use Rattle.spans.specs.Spans.{ends}
+use Rattle.spans.specs.declared.Found.the-variants.{At, None}
 use Rattle.spans.proofs.lookup_in.Statement.{statement}
 use Rattle.spans.proofs.lookup_in.Tie as tie
 
-module _ (low high : List ℕ) (d i : ℕ) where
+module _ (spans : Spans) (d i : ℕ) where
   -- from a place below 8 the lookup finds that place, or goes on from the next; from 8 on it finds nothing
-  step : i < 8 → lowestFrom low high d (8 - i) i ≡ cond (holds low high d i) (At i) (lowestFrom low high d (8 - (i + 1)) (i + 1))
+  step : i < 8 → lowestFrom spans d (8 - i) i ≡ cond (holds spans d i) (At i) (lowestFrom spans d (8 - (i + 1)) (i + 1))
   unfolding lowestFrom
   step h =
       let e : 8 - i ≡ suc (8 - (i + 1)) = omega arith in
       rw e
 
-  found : i < 8 → lookupIn low high d ≡ lowestFrom low high d (8 - i) i → holds low high d i ≡ true → At i ≡ lookupIn low high d
+  found : i < 8 → lookupOf spans d ≡ lowestFrom spans d (8 - i) i → holds spans d i ≡ true → At i ≡ lookupOf spans d
   found h inv e = simp (inv, step h, e)
 
-  passed : i < 8 → lookupIn low high d ≡ lowestFrom low high d (8 - i) i → holds low high d i ≡ false → lookupIn low high d ≡ lowestFrom low high d (8 - (i + 1)) (i + 1)
+  passed : i < 8 → lookupOf spans d ≡ lowestFrom spans d (8 - i) i → holds spans d i ≡ false → lookupOf spans d ≡ lowestFrom spans d (8 - (i + 1)) (i + 1)
   passed h inv e = inv ∙ simp (step h, e)
 
-  ended : 8 ≤ i → lookupIn low high d ≡ lowestFrom low high d (8 - i) i → Nothing ≡ lookupIn low high d
+  ended : 8 ≤ i → lookupOf spans d ≡ lowestFrom spans d (8 - i) i → None ≡ lookupOf spans d
   unfolding lowestFrom
   ended h inv =
       let e : 8 - i ≡ 0 = omega arith in
@@ -33,25 +34,22 @@ module _ (low high : List ℕ) (d i : ℕ) where
 
 abbrev Inv-loop : tie.InvT-loop
 Inv-loop low high duration place₀ place =
-    (place ≤ 8) × (lookupIn low high duration ≡ lowestFrom low high duration (8 - place) place)
+    (place ≤ 8) × (lookupOf (ends low high) duration ≡ lowestFrom (ends low high) duration (8 - place) place)
 
 abbrev μ-loop : tie.MeasureT-loop
 μ-loop low high duration place₀ place = 8 - place
 
 returns : tie.Need-returns Inv-loop μ-loop
 returns c =
-    found _ _ _ _ (search needs) (c .before .before .before .before .before .loop .inv .1)
+    found _ _ _ (search needs) (c .before .before .before .before .before .loop .inv .1)
     (sym (c .before .is-within .ensures) ∙ c .if1 .taken)
 
 loop-again : tie.Need-loop-again Inv-loop μ-loop
 loop-again c = (
   search needs,
-  passed _ _ _ _ (search needs) (c .before .before .before .before .before .loop .inv .1)
+  passed _ _ _ (search needs) (c .before .before .before .before .before .loop .inv .1)
       (sym (c .before .is-within .ensures) ∙ c .if1 .left),
 )
-
-returns-2 : tie.Need-returns-2 Inv-loop μ-loop
-returns-2 c = ended _ _ _ _ (c .loop-test .left) (c .before .loop .inv .1)
 
 pub lookup-in-spec : {M : Type 1} → statement M
 lookup-in-spec =
@@ -70,4 +68,4 @@ lookup-in-spec =
     (λ c. search needs)
     (λ c. search needs)
     loop-again
-    returns-2)
+    (λ c. ended _ _ _ (c .loop-test .left) (c .before .loop .inv .1)))

@@ -5,8 +5,5 @@ use native.Mathlib.Omega.{arith}
 use Rattle.spans.proofs.margin.Statement.{statement}
 use Rattle.spans.proofs.margin.Tie as tie
 
-mul-result : tie.Need-mul-result
-mul-result c = omega (arith, mul-le-mul (c .pre .0) (c .pre .1))
-
 pub margin-spec : {M : Type 1} → statement M
-margin-spec = tie.close (tie.spec mul-result (λ c. search needs))
+margin-spec = tie.close (tie.spec (λ c. omega (arith, mul-le-mul (c .pre .0) (c .pre .1))) (λ c. search needs))

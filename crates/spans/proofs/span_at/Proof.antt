@@ -5,18 +5,9 @@ use native.Mathlib.Omega.{arith}
 use Rattle.spans.proofs.span_at.Statement.{statement}
 use Rattle.spans.proofs.span_at.Tie as tie
 
-mul-base : tie.Need-mul-base
-mul-base c = omega (arith, mul-le-mul (c .length-at .ensures .1) (c .before .pre .2))
-
-cast-span-of : tie.Need-cast-span-of
-cast-span-of c = omega (arith, mul-le-mul (c .length-at .ensures .1) (c .before .pre .2))
-
 span-of-requires : tie.Need-span-of-requires
 span-of-requires c κs =
     (omega (arith, mul-le-mul (c .before .length-at .ensures .1) (c .before .before .pre .2)), c .percent-at .ensures .1)
-
-returns : tie.Need-returns
-returns c = cc
 
 pub span-at-spec : {M : Type 1} → statement M
 span-at-spec =
@@ -24,8 +15,8 @@ span-at-spec =
     (tie.spec
     (λ c κs. search needs)
     (λ c. search needs)
-    mul-base
-    cast-span-of
+    (λ c. omega (arith, mul-le-mul (c .length-at .ensures .1) (c .before .pre .2)))
+    (λ c. omega (arith, mul-le-mul (c .length-at .ensures .1) (c .before .pre .2)))
     (λ c κs. search needs)
     span-of-requires
-    returns)
+    (λ c. cc))

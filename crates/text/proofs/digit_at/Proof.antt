@@ -4,24 +4,15 @@ use borrow.Author.Needs.{needs}
 use Rattle.text.proofs.digit_at.Statement.{statement}
 use Rattle.text.proofs.digit_at.Tie as tie
 
-returns : tie.Need-returns
-returns c = simp (le-leb _ _ (c .if1 .taken))
-
-returns-2 : tie.Need-returns-2
-returns-2 c = simp (lt-leb _ _ (c .before .if1 .left), le-leb _ _ (c .if2 .taken))
-
-returns-3 : tie.Need-returns-3
-returns-3 c = simp (lt-leb _ _ (c .before .if1 .left), lt-leb _ _ (c .if2 .left))
-
 pub digit-at-spec : {M : Type 1} → statement M
 digit-at-spec =
     tie.close
     (tie.spec
     (λ c. search needs)
     (λ c. search needs)
-    returns
+    (λ c. simp (le-leb _ _ (c .if1 .taken)))
     (λ c. search needs)
     (λ c. search needs)
     (λ c. search needs)
-    returns-2
-    returns-3)
+    (λ c. simp (lt-leb _ _ (c .before .if1 .left), le-leb _ _ (c .if2 .taken)))
+    (λ c. simp (lt-leb _ _ (c .before .if1 .left), lt-leb _ _ (c .if2 .left))))

@@ -3,7 +3,8 @@ use Prim.Native.Nat.{_^_}
 use mathlib.Core.Path.{_≡_, refl}
 use lib.ListN.{length}
 use Rattle.text.specs.Text.{putsOf, digitsOf}
-use Rattle.text.proofs.Parts.{digit-put, digits-put}
+use Rattle.text.proofs.Puts.{ended}
+use Rattle.text.proofs.Parts.{digit-put, no-digits}
 use borrow.Author.Needs.{needs}
 use Rattle.text.proofs.put_digits.Statement.{statement}
 use Rattle.text.proofs.put_digits.Tie as tie
@@ -14,9 +15,6 @@ Inv-loop text₀ at column x next₀ power₀ left₀ text next power left =
 
 abbrev μ-loop : tie.MeasureT-loop
 μ-loop text₀ at column x next₀ power₀ left₀ text next power left = left
-
-loop-holds : tie.Need-loop-holds Inv-loop μ-loop
-loop-holds c = (refl, refl)
 
 loop-again : tie.Need-loop-again Inv-loop μ-loop
 loop-again c =
@@ -33,7 +31,7 @@ loop-again c =
 returns : tie.Need-returns Inv-loop μ-loop
 returns c =
     let loop = c .before .loop in
-    digits-put _ _ _ (loop .text) (loop .next) (loop .left) _ (loop .power) _ (c .loop-test .left) (loop .inv .1)
+    ended _ _ _ (loop .text) (loop .next) _ (no-digits (loop .left) _ (loop .power) _ (c .loop-test .left)) (loop .inv .1)
 
 pub put-digits-spec : {M : Type 1} → statement M
 put-digits-spec =
@@ -41,7 +39,7 @@ put-digits-spec =
     (tie.spec
     Inv-loop
     μ-loop
-    loop-holds
+    (λ c. (refl, refl))
     (λ c κs. search needs)
     (λ c κs. search needs)
     (λ c κs. search needs)

@@ -3,7 +3,8 @@ use Prim.Native.Nat.{_-_}
 use mathlib.Core.Path.{_≡_, refl}
 use lib.ListN.{length, drop}
 use Rattle.text.specs.Text.{putsOf, numbersText}
-use Rattle.text.proofs.Parts.{numbers-start, number-put, numbers-put}
+use Rattle.text.proofs.Puts.{ended}
+use Rattle.text.proofs.Parts.{numbers-start, number-put, no-numbers}
 use borrow.Author.Needs.{needs}
 use Rattle.text.proofs.put_durations.Statement.{statement}
 use Rattle.text.proofs.put_durations.Tie as tie
@@ -14,9 +15,6 @@ Inv-loop text₀ at durations count next₀ i₀ text next i =
 
 abbrev μ-loop : tie.MeasureT-loop
 μ-loop text₀ at durations count next₀ i₀ text next i = length durations - i
-
-loop-holds : tie.Need-loop-holds Inv-loop μ-loop
-loop-holds c = (refl, numbers-start _ _ _ _)
 
 loop-again : tie.Need-loop-again Inv-loop μ-loop
 loop-again c =
@@ -32,7 +30,7 @@ loop-again c =
 returns : tie.Need-returns Inv-loop μ-loop
 returns c =
     let loop = c .before .loop in
-    numbers-put _ _ _ (loop .text) (loop .next) _ (loop .i) _ (c .loop-test .left) (loop .inv .1)
+    ended _ _ _ (loop .text) (loop .next) _ (no-numbers _ (loop .i) _ (c .loop-test .left)) (loop .inv .1)
 
 pub put-durations-spec : {M : Type 1} → statement M
 put-durations-spec =
@@ -40,7 +38,7 @@ put-durations-spec =
     (tie.spec
     Inv-loop
     μ-loop
-    loop-holds
+    (λ c. (refl, numbers-start _ _ _ _))
     (λ c. search needs)
     (λ c. search needs)
     (λ c κs. search needs)

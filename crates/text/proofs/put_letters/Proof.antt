@@ -2,7 +2,8 @@
 use mathlib.Core.Path.{_≡_, refl}
 use lib.ListN.{length}
 use Rattle.text.specs.Text.{putsOf, letters}
-use Rattle.text.proofs.Parts.{letter-put, letters-put}
+use Rattle.text.proofs.Puts.{ended}
+use Rattle.text.proofs.Parts.{letter-put, no-letters}
 use borrow.Author.Needs.{needs}
 use Rattle.text.proofs.put_letters.Statement.{statement}
 use Rattle.text.proofs.put_letters.Tie as tie
@@ -13,9 +14,6 @@ Inv-loop text₀ at word next₀ rest₀ left₀ text next rest left =
 
 abbrev μ-loop : tie.MeasureT-loop
 μ-loop text₀ at word next₀ rest₀ left₀ text next rest left = left
-
-loop-holds : tie.Need-loop-holds Inv-loop μ-loop
-loop-holds c = (refl, refl)
 
 loop-again : tie.Need-loop-again Inv-loop μ-loop
 loop-again c =
@@ -31,7 +29,7 @@ loop-again c =
 returns : tie.Need-returns Inv-loop μ-loop
 returns c =
     let loop = c .before .loop in
-    letters-put _ _ _ (loop .text) (loop .next) (loop .left) (loop .rest) (c .loop-test .left) (loop .inv .1)
+    ended _ _ _ (loop .text) (loop .next) _ (no-letters (loop .left) (loop .rest) (c .loop-test .left)) (loop .inv .1)
 
 pub put-letters-spec : {M : Type 1} → statement M
 put-letters-spec =
@@ -39,7 +37,7 @@ put-letters-spec =
     (tie.spec
     Inv-loop
     μ-loop
-    loop-holds
+    (λ c. (refl, refl))
     (λ c κs. search needs)
     (λ c κs. search needs)
     (λ c κs. search needs)

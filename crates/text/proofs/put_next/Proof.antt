@@ -14,15 +14,10 @@ returns c =
     let blank = number .before .before .before .before in
     let test = blank .before .before in
     let p = two _ _ _ _ _ _ _ _ (one _ _ _ _ _ (blank .put .ensures)) (number .put-number .ensures) in
-    same _ _ _ _ _ _ (ap (λ (said : Bool). nextText said (test .before .before .args .x)) (sym (test .if1 .taken))) p
-
-returns-2 : tie.Need-returns-2
-unfolding nextText
-returns-2 c =
-    let args = c .before .before .args in
-    same _ _ _ _ _ _ (ap (λ (said : Bool). nextText said (args .x)) (sym (c .if1 .left))) (none _ _)
+    same _ _ _ _ _ _ (ap (λ (put : Bool). nextText put (test .before .before .args .x)) (sym (test .if1 .taken))) p
 
 pub put-next-spec : {M : Type 1} → statement M
+unfolding nextText
 put-next-spec =
     tie.close
     (tie.spec
@@ -30,4 +25,6 @@ put-next-spec =
     (λ c κs. search needs)
     (λ c. search needs)
     returns
-    returns-2)
+    (λ c.
+    let args = c .before .before .args in
+    same _ _ _ _ _ _ (ap (λ (put : Bool). nextText put (args .x)) (sym (c .if1 .left))) (none _ _)))

@@ -4,24 +4,15 @@ use borrow.Author.Needs.{needs}
 use Rattle.words.proofs.blank_fed.Statement.{statement}
 use Rattle.words.proofs.blank_fed.Tie as tie
 
-returns : tie.Need-returns
-returns c = let e = le-ltb _ _ (c .before .if1 .taken) in (simp (e, c .broken .ensures), simp e)
-
-returns-2 : tie.Need-returns-2
-returns-2 c = let e = lt-ltb _ _ (c .before .if1 .left) in (simp (e, c .if2 .taken), simp (e, c .if2 .taken))
-
-returns-3 : tie.Need-returns-3
-returns-3 c = let e = lt-ltb _ _ (c .before .before .if1 .left) in (simp (e, c .before .if2 .left, c .broken2 .ensures), simp (e, c .before .if2 .left))
-
 pub blank-fed-spec : {M : Type 1} → statement M
 blank-fed-spec =
     tie.close
     (tie.spec
     (λ c κs. search needs)
-    returns
+    (λ c. let e = le-ltb _ _ (c .before .if1 .taken) in (simp (e, c .broken .ensures), simp e))
     (λ c. search needs)
     (λ c. search needs)
     (λ c. search needs)
-    returns-2
+    (λ c. let e = lt-ltb _ _ (c .before .if1 .left) in (simp (e, c .if2 .taken), simp (e, c .if2 .taken)))
     (λ c κs. search needs)
-    returns-3)
+    (λ c. let e = lt-ltb _ _ (c .before .before .if1 .left) in (simp (e, c .before .if2 .left, c .broken2 .ensures), simp (e, c .before .if2 .left))))

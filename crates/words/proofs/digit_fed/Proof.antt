@@ -5,9 +5,6 @@ use borrow.Author.Needs.{needs}
 use Rattle.words.proofs.digit_fed.Statement.{statement}
 use Rattle.words.proofs.digit_fed.Tie as tie
 
-returns : tie.Need-returns
-returns c = let e = lt-leb _ _ (c .before .if1 .taken) in (simp (e, c .broken .ensures), simp e)
-
 returns-2 : tie.Need-returns-2
 returns-2 c =
     let e = le-leb _ _ (c .before .before .if1 .left) in
@@ -33,7 +30,7 @@ digit-fed-spec =
     tie.close
     (tie.spec
     (λ c κs. search needs)
-    returns
+    (λ c. let e = lt-leb _ _ (c .before .if1 .taken) in (simp (e, c .broken .ensures), simp e))
     (λ c κs. search needs)
     returns-2
     (λ c. search needs)

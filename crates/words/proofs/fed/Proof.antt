@@ -25,9 +25,6 @@ returns-3 c =
     let g = sym (c .before .before .is-letter .ensures) ∙ c .before .if3 .left in
     (simp (e, f, g, c .broken .ensures), simp (e, f, g))
 
-sub-digit-fed : tie.Need-sub-digit-fed
-sub-digit-fed c = digit-from _ (sym (c .before .before .is-digit .ensures) ∙ c .before .if4 .taken)
-
 returns-4 : tie.Need-returns-4
 returns-4 c =
     let e = ne-eqb _ _ (c .before .before .before .before .before .before .if1 .left) in
@@ -54,7 +51,7 @@ fed-spec =
     (λ c κs. search needs)
     returns-3
     (λ c κs. search needs)
-    sub-digit-fed
+    (λ c. digit-from _ (sym (c .before .before .is-digit .ensures) ∙ c .before .if4 .taken))
     (λ c κs. search needs)
     returns-4
     (λ c κs. search needs)

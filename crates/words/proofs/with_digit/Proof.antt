@@ -4,11 +4,5 @@ use borrow.Author.Needs.{needs}
 use Rattle.words.proofs.with_digit.Statement.{statement}
 use Rattle.words.proofs.with_digit.Tie as tie
 
-returns : tie.Need-returns
-returns c = simp (le-leb _ _ (c .if1 .taken))
-
-returns-2 : tie.Need-returns-2
-returns-2 c = simp (lt-leb _ _ (c .if1 .left))
-
 pub with-digit-spec : {M : Type 1} → statement M
-with-digit-spec = tie.close (tie.spec (λ c. search needs) (λ c. search needs) (λ c. search needs) returns returns-2)
+with-digit-spec = tie.close (tie.spec (λ c. search needs) (λ c. search needs) (λ c. search needs) (λ c. simp (le-leb _ _ (c .if1 .taken))) (λ c. simp (lt-leb _ _ (c .if1 .left))))

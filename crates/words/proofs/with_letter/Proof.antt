@@ -4,11 +4,12 @@ use borrow.Author.Needs.{needs}
 use Rattle.words.proofs.with_letter.Statement.{statement}
 use Rattle.words.proofs.with_letter.Tie as tie
 
-returns : tie.Need-returns
-returns c = simp (lt-ltb _ _ (c .before .if1 .taken))
-
-returns-2 : tie.Need-returns-2
-returns-2 c = simp (le-ltb _ _ (c .before .if1 .left), c .broken .ensures)
-
 pub with-letter-spec : {M : Type 1} → statement M
-with-letter-spec = tie.close (tie.spec (λ c. search needs) (λ c. search needs) returns (λ c κs. search needs) returns-2)
+with-letter-spec =
+    tie.close
+    (tie.spec
+    (λ c. search needs)
+    (λ c. search needs)
+    (λ c. simp (lt-ltb _ _ (c .before .if1 .taken)))
+    (λ c κs. search needs)
+    (λ c. simp (le-ltb _ _ (c .before .if1 .left), c .broken .ensures)))

@@ -19,8 +19,8 @@ returns c =
     let protocol = rate .before .before in
     let marks = protocol .before .before .before .before in
     let toggle = eqb (getD (now (marks .before .before .before .args .n)) 5 0) 1 in (
-      same-answer toggle (e .encode .ensures .0) (protocol .low-32 .ensures) (rate .low-322 .ensures) (marks .put-marks .ensures) (addr .low-8 .ensures) (cmd .low-82 .ensures) (start .low-83 .ensures),
-      same-places toggle (e .encode .ensures .1) (protocol .low-32 .ensures) (rate .low-322 .ensures) (marks .put-marks .ensures) (addr .low-8 .ensures) (cmd .low-82 .ensures) (start .low-83 .ensures),
+      same-answer toggle (e .encode-by .ensures .0) (protocol .low-32 .ensures) (rate .low-322 .ensures) (marks .put-marks .ensures) (addr .low-8 .ensures) (cmd .low-82 .ensures) (start .low-83 .ensures),
+      same-places toggle (e .encode-by .ensures .1) (protocol .low-32 .ensures) (rate .low-322 .ensures) (marks .put-marks .ensures) (addr .low-8 .ensures) (cmd .low-82 .ensures) (start .low-83 .ensures),
     )
 
 pub encode-spec : {M : Type 1} → statement M

@@ -14,9 +14,6 @@ Inv-loop lent₀ i₀ lent i = (length lent ≡ length lent₀) × (laid mark le
 abbrev μ-loop : tie.MeasureT-loop
 μ-loop lent₀ i₀ lent i = length lent₀ - i
 
-loop-holds : tie.Need-loop-holds Inv-loop μ-loop
-loop-holds c = (refl, refl)
-
 loop-again : tie.Need-loop-again Inv-loop μ-loop
 loop-again c =
     let loop = c .before .before .loop in
@@ -24,16 +21,13 @@ loop-again c =
     let i = loop .i in
     (search needs, ap (λ (x : ℕ). laid mark (set lent i x) (i + 1)) (c .mark-of .ensures) ∙ laid-next mark lent i (search needs) ∙ loop .inv .1)
 
-returns : tie.Need-returns Inv-loop μ-loop
-returns c = let loop = c .before .loop in sym (laid-all mark (loop .lent) (loop .i) (search needs)) ∙ loop .inv .1
-
 pub put-marks-spec : {M : Type 1} → statement M
 put-marks-spec =
     tie.close
     (tie.spec
     Inv-loop
     μ-loop
-    loop-holds
+    (λ c. (refl, refl))
     (λ c κs. search needs)
     (λ c. search needs)
     (λ c. search needs)
@@ -41,4 +35,4 @@ put-marks-spec =
     (λ c. search needs)
     loop-again
     (λ c. search needs)
-    returns)
+    (λ c. let loop = c .before .loop in sym (laid-all mark (loop .lent) (loop .i) (search needs)) ∙ loop .inv .1))

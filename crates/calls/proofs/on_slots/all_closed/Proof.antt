@@ -3,8 +3,5 @@ use borrow.Author.Needs.{needs}
 use Rattle.calls.proofs.on_slots.all_closed.Statement.{statement}
 use Rattle.calls.proofs.on_slots.all_closed.Tie as tie
 
-returns : tie.Need-returns
-returns c = simp (c .closed .ensures)
-
 pub all-closed-spec : {M : Type 1} → statement M
-all-closed-spec = tie.close (tie.spec (λ c κs. search needs) returns)
+all-closed-spec = tie.close (tie.spec (λ c κs. search needs) (λ c. simp (c .closed .ensures)))

@@ -1,6 +1,6 @@
 -- `calls::on_slots::answered` meets its contract: its test picks the definition's branch. Assumes nothing.
 use mathlib.Core.Path.{sym, ap, _∙_}
-use Rattle.answers.specs.declared.Said.{Said}
+use Rattle.answers.specs.declared.Phrase.{Phrase}
 use Rattle.calls.specs.OnSlots.{elsewhere, answeredAt}
 use Rattle.calls.proofs.Made.{again, picked, passed}
 use borrow.Author.Needs.{needs}
@@ -22,7 +22,7 @@ unfolding answeredAt
 returns-2 c =
     let args = c .before .before .before .before .args in
     let test = sym (c .before .before .before .is-on-slot .ensures) ∙ c .before .before .if1 .left in
-    passed _ _ _ _ test (c .elsewhere .ensures ∙ ap (λ (said : Said). elsewhere said (args .slots)) (c .before .said-of .ensures))
+    passed _ _ _ _ test (c .elsewhere .ensures ∙ ap (λ (phrase : Phrase). elsewhere phrase (args .slots)) (c .before .phrase-of .ensures))
 
 pub answered-spec : {M : Type 1} → statement M
 answered-spec =

@@ -3,25 +3,10 @@ use borrow.Author.Tests.{ne-eqb}
 use Rattle.calls.proofs.on_slots.ask_of.Statement.{statement}
 use Rattle.calls.proofs.on_slots.ask_of.Tie as tie
 
-returns : tie.Need-returns
-returns c = simp (c .match .keys1)
-
-returns-2 : tie.Need-returns-2
-returns-2 c = simp (c .match .keys2)
-
-returns-3 : tie.Need-returns-3
-returns-3 c = simp (c .match .keys3)
-
-returns-4 : tie.Need-returns-4
-returns-4 c = simp (c .match .keys4)
-
-returns-5 : tie.Need-returns-5
-returns-5 c = simp (c .match .keys5)
-
 returns-6 : tie.Need-returns-6
 returns-6 c =
     let r = c .match .rest in
     simp (ne-eqb _ 4 (r .0 .0 .0 .0 .1), ne-eqb _ 5 (r .0 .0 .0 .1), ne-eqb _ 6 (r .0 .0 .1), ne-eqb _ 8 (r .0 .1), ne-eqb _ 10 (r .1))
 
 pub ask-of-spec : {M : Type 1} → statement M
-ask-of-spec = tie.close (tie.spec returns returns-2 returns-3 returns-4 returns-5 returns-6)
+ask-of-spec = tie.close (tie.spec (λ c. simp (c .match .keys1)) (λ c. simp (c .match .keys2)) (λ c. simp (c .match .keys3)) (λ c. simp (c .match .keys4)) (λ c. simp (c .match .keys5)) returns-6)

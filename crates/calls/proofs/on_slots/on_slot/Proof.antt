@@ -5,7 +5,7 @@ use lib.Dec.{eqb}
 use borrow.Author.Tests.{eq-eqb, ne-eqb}
 use borrow.Author.Needs.{needs}
 use Rattle.slots.specs.Slots.{openedAt, askedAt}
-use Rattle.slots.specs.declared.Done.{Done}
+use Rattle.slots.specs.declared.SlotAnswer.{SlotAnswer}
 use Rattle.slots.specs.declared.Ask.{Ask}
 use Rattle.slots.specs.declared.Ask.the-variants as ask
 use Rattle.calls.specs.OnSlots.{askOf, onSlot}
@@ -13,12 +13,8 @@ use Rattle.calls.proofs.on_slots.on_slot.Statement.{statement}
 use Rattle.calls.proofs.on_slots.on_slot.Tie as tie
 
 -- the branch that is picked where no test holds
-none : (p q s : Bool) (x y z r : Done) → p ≡ false → q ≡ false → s ≡ false → r ≡ z → r ≡ cond (p || q) x (cond s y z)
+none : (p q s : Bool) (x y z r : SlotAnswer) → p ≡ false → q ≡ false → s ≡ false → r ≡ z → r ≡ cond (p || q) x (cond s y z)
 none p q s x y z r e f g h = simp (e, f, g) h
-
-returns : tie.Need-returns
-unfolding onSlot
-returns c = simp (eq-eqb _ _ (c .before .if1 .taken)) (c .opened .ensures)
 
 returns-2 : tie.Need-returns-2
 unfolding onSlot
@@ -42,11 +38,12 @@ returns-4 c =
     (c .asked2 .ensures ∙ ap (λ (ask : Ask). askedAt ask slot (eqb a 1) b) (c .before .ask-of .ensures))
 
 pub on-slot-spec : {M : Type 1} → statement M
+unfolding onSlot
 on-slot-spec =
     tie.close
     (tie.spec
     (λ c κs. search needs)
-    returns
+    (λ c. simp (eq-eqb _ _ (c .before .if1 .taken)) (c .opened .ensures))
     (λ c κs. search needs)
     returns-2
     (λ c κs. search needs)

@@ -3,8 +3,8 @@ use Prim.Native.Nat.{_-_}
 use mathlib.Core.Path.{_≡_, refl, sym, _∙_}
 use borrow.Author.Needs.{needs}
 use lib.ListN.{length, drop}
-use Rattle.reports.specs.Run.{alternating}
-use Rattle.receiver.specs.Decoder.{decoderAfter}
+use Rattle.reports.specs.Edges.{alternating}
+use Rattle.protocols.specs.Decoder.{decoderAfter}
 use Rattle.promises.proofs.Feeding.{after-next, after-end}
 use Rattle.promises.proofs.send.after.Statement.{statement}
 use Rattle.promises.proofs.send.after.Tie as tie

@@ -3,15 +3,6 @@ use borrow.Author.Needs.{needs}
 use Rattle.promises.proofs.send.note.Statement.{statement}
 use Rattle.promises.proofs.send.note.Tie as tie
 
-returns-2 : tie.Need-returns-2
-returns-2 c = simp (c .before .before .report .given .1, c .tell .ensures)
-
-returns-3 : tie.Need-returns-3
-returns-3 c = simp (c .before .before .report2 .given .1, c .tell2 .ensures)
-
-returns-4 : tie.Need-returns-4
-returns-4 c = simp (c .before .before .report3 .given .1, c .tell3 .ensures)
-
 pub note-spec : {M : Type 1} → statement M
 note-spec =
     tie.close
@@ -24,6 +15,6 @@ note-spec =
     (λ c. search needs)
     (λ c κs. search needs)
     (λ c. search needs)
-    returns-2
-    returns-3
-    returns-4)
+    (λ c. simp (c .before .before .report .given .1, c .note-some .ensures))
+    (λ c. simp (c .before .before .report2 .given .1, c .note-some2 .ensures))
+    (λ c. simp (c .before .before .report3 .given .1, c .note-some3 .ensures)))

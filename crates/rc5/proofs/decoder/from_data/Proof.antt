@@ -4,21 +4,12 @@ use borrow.Author.Needs.{needs}
 use Rattle.rc5.proofs.decoder.from_data.Statement.{statement}
 use Rattle.rc5.proofs.decoder.from_data.Tie as tie
 
-returns : tie.Need-returns
-returns c = simp (eq-eqb _ _ (c .before .before .if1 .taken), eq-eqb _ _ (c .if2 .taken), c .before .gathered .ensures)
-
-returns-2 : tie.Need-returns-2
-returns-2 c = simp (eq-eqb _ _ (c .before .before .if1 .taken), ne-eqb _ _ (c .if2 .left), c .before .gathered .ensures)
-
-returns-3 : tie.Need-returns-3
-returns-3 c = simp (ne-eqb _ _ (c .if1 .left))
-
 pub from-data-spec : {M : Type 1} → statement M
 from-data-spec =
     tie.close
     (tie.spec
     (λ c κs. search needs)
     (λ c. search needs)
-    returns
-    returns-2
-    returns-3)
+    (λ c. simp (eq-eqb _ _ (c .before .before .if1 .taken), eq-eqb _ _ (c .if2 .taken), c .before .with-bit .ensures))
+    (λ c. simp (eq-eqb _ _ (c .before .before .if1 .taken), ne-eqb _ _ (c .if2 .left), c .before .with-bit .ensures))
+    (λ c. simp (ne-eqb _ _ (c .if1 .left))))

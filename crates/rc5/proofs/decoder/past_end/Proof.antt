@@ -3,18 +3,7 @@ use borrow.Author.Needs.{needs}
 use Rattle.rc5.proofs.decoder.past_end.Statement.{statement}
 use Rattle.rc5.proofs.decoder.past_end.Tie as tie
 
-returns-2 : tie.Need-returns-2
-returns-2 c = cc
-
 pub past-end-spec : {M : Type 1} → statement M
 past-end-spec =
     tie.close
-    (tie.spec
-    (λ c. search needs)
-    (λ c. search needs)
-    (λ c. search needs)
-    (λ c. search needs)
-    (λ c. search needs)
-    returns-2
-    (λ c. search needs)
-    (λ c. search needs))
+    (tie.spec (λ c. search needs) (λ c. search needs) (λ c. search needs) (λ c. search needs) (λ c. search needs) (λ c. simp (c .before .state .given .1)) (λ c. search needs) (λ c. search needs))

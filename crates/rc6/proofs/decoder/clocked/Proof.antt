@@ -3,12 +3,5 @@ use borrow.Author.Needs.{needs}
 use Rattle.rc6.proofs.decoder.clocked.Statement.{statement}
 use Rattle.rc6.proofs.decoder.clocked.Tie as tie
 
-returns : tie.Need-returns
-returns c = simp (c .wrapping-add-u64 .ensures)
-
 pub clocked-spec : {M : Type 1} → statement M
-clocked-spec =
-    tie.close
-    (tie.spec
-    (λ c κs. search needs)
-    returns)
+clocked-spec = tie.close (tie.spec (λ c κs. search needs) (λ c. simp (c .wrapping-add-u64 .ensures)))

@@ -3,16 +3,5 @@ use borrow.Author.Needs.{needs}
 use Rattle.rc6.proofs.decoder.from_idle.Statement.{statement}
 use Rattle.rc6.proofs.decoder.from_idle.Tie as tie
 
-returns : tie.Need-returns
-returns c = simp (c .if1 .taken)
-
-returns-2 : tie.Need-returns-2
-returns-2 c = simp (c .to-idle .ensures, c .before .if1 .left)
-
 pub from-idle-spec : {M : Type 1} → statement M
-from-idle-spec =
-    tie.close
-    (tie.spec
-    (λ c κs. search needs)
-    returns
-    returns-2)
+from-idle-spec = tie.close (tie.spec (λ c κs. search needs) (λ c. simp (c .if1 .taken)) (λ c. simp (c .to-idle .ensures, c .before .if1 .left)))

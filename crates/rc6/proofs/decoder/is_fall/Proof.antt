@@ -3,8 +3,5 @@ use borrow.Author.Needs.{needs}
 use Rattle.rc6.proofs.decoder.is_fall.Statement.{statement}
 use Rattle.rc6.proofs.decoder.is_fall.Tie as tie
 
-returns-2 : tie.Need-returns-2
-returns-2 c = simp (c .if1 .left)
-
 pub is-fall-spec : {M : Type 1} → statement M
-is-fall-spec = tie.close (tie.spec (λ c. search needs) returns-2)
+is-fall-spec = tie.close (tie.spec (λ c. search needs) (λ c. simp (c .if1 .left)))

@@ -3,8 +3,5 @@ use lib.Bits.{and-mask}
 use Rattle.rc6.proofs.decoder.is_odd.Statement.{statement}
 use Rattle.rc6.proofs.decoder.is_odd.Tie as tie
 
-returns : tie.Need-returns
-returns c = simp (and-mask (c .args .clock) 1)
-
 pub is-odd-spec : {M : Type 1} → statement M
-is-odd-spec = tie.close (tie.spec returns)
+is-odd-spec = tie.close (tie.spec (λ c. simp (and-mask (c .args .clock) 1)))

@@ -3,8 +3,5 @@ use borrow.Author.Needs.{needs}
 use Rattle.rc6.proofs.decoder.is_rise.Statement.{statement}
 use Rattle.rc6.proofs.decoder.is_rise.Tie as tie
 
-returns : tie.Need-returns
-returns c = simp (c .if1 .taken)
-
 pub is-rise-spec : {M : Type 1} → statement M
-is-rise-spec = tie.close (tie.spec returns (λ c. search needs))
+is-rise-spec = tie.close (tie.spec (λ c. simp (c .if1 .taken)) (λ c. search needs))

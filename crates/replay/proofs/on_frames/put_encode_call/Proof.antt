@@ -5,16 +5,13 @@ use borrow.Author.Needs.{needs}
 use Rattle.replay.proofs.on_frames.put_encode_call.Statement.{statement}
 use Rattle.replay.proofs.on_frames.put_encode_call.Tie as tie
 
-slice-aggregate-put-frame : tie.Need-slice-aggregate-put-frame
-slice-aggregate-put-frame c = simp length-take (omega arith)
-
 pub put-encode-call-spec : {M : Type 1} → statement M
 put-encode-call-spec =
     tie.close
     (tie.spec
     (λ c. search needs)
     (λ c. search needs)
-    slice-aggregate-put-frame
+    (λ c. simp length-take (omega arith))
     (λ c κs. search needs)
     (λ c. search needs)
     (λ c. search needs))

@@ -1,54 +1,14 @@
 -- `sbp::decoder::event_in` meets its contract: a falling edge is saved, and a rising one answers by its place. Assumes nothing.
-use mathlib.Core.Path.{_∙_, sym, ap}
-use borrow.Author.Tests.{ne-eqb}
-use Rattle.spans.specs.Lookup.{placeOf}
-use Rattle.sbp.proofs.Places.{fell, rose, rose-elsewhere}
+use mathlib.Core.Path.{sym}
 use borrow.Author.Needs.{needs}
+use Rattle.reports.specs.Machine.{event}
+use Rattle.sbp.specs.Decoder.{stepIn}
+use Rattle.sbp.proofs.Places.{elsewhere}
 use Rattle.sbp.proofs.decoder.event_in.Statement.{statement}
 use Rattle.sbp.proofs.decoder.event_in.Tie as tie
 
-returns : tie.Need-returns
-returns c =
-    let start = c .before .before .before .before .before .before .args in
-    let place = sym (c .before .before .place-of .ensures ∙ ap placeOf (c .before .before .before .lookup-in .ensures)) in
-    c .next-of .ensures
-    ∙ sym (rose (start .low .now) (start .high .now) (start .m) (start .rising) (start .duration) _ (c .before .before .before .before .before .if1 .taken) (place ∙ c .before .match .keys1))
-
-returns-2 : tie.Need-returns-2
-returns-2 c =
-    let start = c .before .before .before .before .before .before .args in
-    let place = sym (c .before .before .place-of .ensures ∙ ap placeOf (c .before .before .before .lookup-in .ensures)) in
-    c .next-of2 .ensures
-    ∙ sym (rose (start .low .now) (start .high .now) (start .m) (start .rising) (start .duration) _ (c .before .before .before .before .before .if1 .taken) (place ∙ c .before .match .keys2))
-
-returns-3 : tie.Need-returns-3
-returns-3 c =
-    let start = c .before .before .before .before .before .before .args in
-    let place = sym (c .before .before .place-of .ensures ∙ ap placeOf (c .before .before .before .lookup-in .ensures)) in
-    c .next-of3 .ensures
-    ∙ sym (rose (start .low .now) (start .high .now) (start .m) (start .rising) (start .duration) _ (c .before .before .before .before .before .if1 .taken) (place ∙ c .before .match .keys3))
-
-returns-4 : tie.Need-returns-4
-returns-4 c =
-    let start = c .before .before .before .before .before .before .args in
-    let place = sym (c .before .before .place-of .ensures ∙ ap placeOf (c .before .before .before .lookup-in .ensures)) in
-    c .next-of4 .ensures
-    ∙ sym (rose (start .low .now) (start .high .now) (start .m) (start .rising) (start .duration) _ (c .before .before .before .before .before .if1 .taken) (place ∙ c .before .match .keys4))
-
-returns-5 : tie.Need-returns-5
-returns-5 c =
-    let start = c .before .before .before .before .before .before .args in
-    let place = sym (c .before .before .place-of .ensures ∙ ap placeOf (c .before .before .before .lookup-in .ensures)) in
-    let r = c .before .match .rest in
-    c .next-of5 .ensures
-    ∙ sym (rose-elsewhere (start .low .now) (start .high .now) (start .m) (start .rising) (start .duration) _ (c .before .before .before .before .before .if1 .taken) place (ne-eqb _ 0 (r .0 .0 .0 .1)) (ne-eqb _ 1 (r .0 .0 .1)) (ne-eqb _ 2 (r .0 .1)) (ne-eqb _ 3 (r .1)))
-
-returns-6 : tie.Need-returns-6
-returns-6 c =
-    let start = c .before .before .args in
-    c .save .ensures ∙ sym (fell (start .low .now) (start .high .now) (start .m) (start .rising) (start .duration) (c .before .if1 .left))
-
 pub event-in-spec : {M : Type 1} → statement M
+unfolding event stepIn
 event-in-spec =
     tie.close
     (tie.spec
@@ -62,9 +22,19 @@ event-in-spec =
     (λ c κs. search needs)
     (λ c κs. search needs)
     (λ c κs. search needs)
-    returns
-    returns-2
-    returns-3
-    returns-4
-    returns-5
-    returns-6)
+    (λ c. let p = c .before .before in simp (c .next-of .ensures, p .before .before .before .if1 .taken, sym (p .before .lookup-in .ensures), sym (p .place-of .ensures), c .before .match .keys1))
+    (λ c. let p = c .before .before in simp (c .next-of2 .ensures, p .before .before .before .if1 .taken, sym (p .before .lookup-in .ensures), sym (p .place-of .ensures), c .before .match .keys2))
+    (λ c. let p = c .before .before in simp (c .next-of3 .ensures, p .before .before .before .if1 .taken, sym (p .before .lookup-in .ensures), sym (p .place-of .ensures), c .before .match .keys3))
+    (λ c. let p = c .before .before in simp (c .next-of4 .ensures, p .before .before .before .if1 .taken, sym (p .before .lookup-in .ensures), sym (p .place-of .ensures), c .before .match .keys4))
+    (λ c.
+    let p = c .before .before in
+    let r = c .before .match .rest in
+    let m = p .before .before .before .before .args .m in
+    simp (
+      c .next-of5 .ensures,
+      p .before .before .before .if1 .taken,
+      sym (p .before .lookup-in .ensures),
+      sym (p .place-of .ensures),
+      elsewhere (r .0 .0 .0 .1) (r .0 .0 .1) (r .0 .1) (r .1) (m .state) (m .address) (m .command) (m .saved),
+    ))
+    (λ c. simp (c .save .ensures, c .before .if1 .left)))

@@ -4,16 +4,5 @@ use borrow.Author.Needs.{needs}
 use Rattle.sbp.proofs.decoder.from_init.Statement.{statement}
 use Rattle.sbp.proofs.decoder.from_init.Tie as tie
 
-returns : tie.Need-returns
-returns c = simp (c .match .keys1)
-
-returns-2 : tie.Need-returns-2
-returns-2 c = simp (c .waiting .ensures, ne-eqb _ 0 (c .before .match .rest .1))
-
 pub from-init-spec : {M : Type 1} → statement M
-from-init-spec =
-    tie.close
-    (tie.spec
-    (λ c κs. search needs)
-    returns
-    returns-2)
+from-init-spec = tie.close (tie.spec (λ c κs. search needs) (λ c. simp (c .match .keys1)) (λ c. simp (c .waiting .ensures, ne-eqb _ 0 (c .before .match .rest .1))))

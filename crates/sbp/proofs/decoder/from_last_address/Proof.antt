@@ -4,20 +4,11 @@ use borrow.Author.Needs.{needs}
 use Rattle.sbp.proofs.decoder.from_last_address.Statement.{statement}
 use Rattle.sbp.proofs.decoder.from_last_address.Tie as tie
 
-returns : tie.Need-returns
-returns c = simp (c .match .keys1)
-
-returns-2 : tie.Need-returns-2
-returns-2 c = simp (c .match .keys2)
-
-returns-3 : tie.Need-returns-3
-returns-3 c = let r = c .before .match .rest in simp (c .failed .ensures, ne-eqb _ 2 (r .0 .1), ne-eqb _ 3 (r .1))
-
 pub from-last-address-spec : {M : Type 1} → statement M
 from-last-address-spec =
     tie.close
     (tie.spec
     (λ c κs. search needs)
-    returns
-    returns-2
-    returns-3)
+    (λ c. simp (c .match .keys1))
+    (λ c. simp (c .match .keys2))
+    (λ c. let r = c .before .match .rest in simp (c .failed .ensures, ne-eqb _ 2 (r .0 .1), ne-eqb _ 3 (r .1))))

@@ -3,12 +3,6 @@ use borrow.Author.Needs.{needs}
 use Rattle.sbp.proofs.decoder.past_end.Statement.{statement}
 use Rattle.sbp.proofs.decoder.past_end.Tie as tie
 
-returns-2 : tie.Need-returns-2
-returns-2 c = simp (c .before .state .given .1)
-
-returns-4 : tie.Need-returns-4
-returns-4 c = simp (c .before .state2 .given .1)
-
 pub past-end-spec : {M : Type 1} → statement M
 past-end-spec =
     tie.close
@@ -20,8 +14,8 @@ past-end-spec =
     (λ c. search needs)
     (λ c. search needs)
     (λ c. search needs)
-    returns-2
+    (λ c. simp (c .before .state .given .1))
     (λ c. search needs)
-    returns-4
+    (λ c. simp (c .before .state2 .given .1))
     (λ c. search needs)
     (λ c. search needs))

@@ -7,9 +7,6 @@ use Rattle.spans.proofs.Entries.{entry-le}
 use Rattle.spans.proofs.tables.length_at.Statement.{statement}
 use Rattle.spans.proofs.tables.length_at.Tie as tie
 
-returns : tie.Need-returns
-returns c = (search needs, entry-le 13500 lengths refl (c .before .args .protocol - 1) (c .before .args .place))
-
 pub length-at-spec : {M : Type 1} → statement M
 length-at-spec =
     tie.close
@@ -20,4 +17,4 @@ length-at-spec =
     (λ c. search needs)
     (λ c. search needs)
     (λ c. search needs)
-    returns)
+    (λ c. (search needs, entry-le 13500 lengths refl (c .before .args .protocol - 1) (c .before .args .place))))

@@ -7,9 +7,6 @@ use Rattle.spans.proofs.Entries.{entry-le}
 use Rattle.spans.proofs.tables.percent_at.Statement.{statement}
 use Rattle.spans.proofs.tables.percent_at.Tie as tie
 
-returns : tie.Need-returns
-returns c = (search needs, entry-le 12 percents refl (c .before .args .protocol - 1) (c .before .args .place))
-
 pub percent-at-spec : {M : Type 1} → statement M
 percent-at-spec =
     tie.close
@@ -20,4 +17,4 @@ percent-at-spec =
     (λ c. search needs)
     (λ c. search needs)
     (λ c. search needs)
-    returns)
+    (λ c. (search needs, entry-le 12 percents refl (c .before .args .protocol - 1) (c .before .args .place))))

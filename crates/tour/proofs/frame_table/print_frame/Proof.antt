@@ -5,9 +5,6 @@ use borrow.Author.Needs.{needs}
 use Rattle.tour.proofs.frame_table.print_frame.Statement.{statement}
 use Rattle.tour.proofs.frame_table.print_frame.Tie as tie
 
-slice-aggregate-print-lines : tie.Need-slice-aggregate-print-lines
-slice-aggregate-print-lines c = simp length-take (omega arith)
-
 pub print-frame-spec : {M : Type 1} → statement M
 print-frame-spec =
     tie.close
@@ -17,7 +14,7 @@ print-frame-spec =
     (λ c κs. search needs)
     (λ c κs. search needs)
     (λ c κs. search needs)
-    slice-aggregate-print-lines
+    (λ c. simp length-take (omega arith))
     (λ c κs. search needs)
     (λ c. search needs)
     (λ c. search needs))

@@ -1,4 +1,4 @@
--- `Rc5Command::unpack` meets its contract: each field stands behind its mask. Assumes nothing.
+-- `Rc5Command::unpack` meets its contract: each field stands under its mask. Assumes nothing.
 use borrow.Author.Needs.{needs}
 use native.Mathlib.Nat.{lt-of-le-of-lt}
 use native.Mathlib.Omega.{arith}
@@ -9,25 +9,16 @@ use Rattle.commands.proofs.Bits.{field-masked, bit-masked}
 use Rattle.commands.proofs.rc5.Rc5Command.unpack.Statement.{statement}
 use Rattle.commands.proofs.rc5.Rc5Command.unpack.Tie as tie
 
-cast-addr : tie.Need-cast-addr-2
-cast-addr c = record { fits = omega (arith, field-masked (c .args .bits) 5 6) }
-
-cast-start : tie.Need-cast-start-2
-cast-start c = record { fits = shr-lt 8 12 (lt-of-le-of-lt (and-le-l (c .args .bits) _) (omega arith)) }
-
-returns : tie.Need-returns
-unfolding unpackOf
-returns c = simp (field-masked (c .args .bits) 5 6, and-mask (c .args .bits) 6, field-masked (c .args .bits) 2 12, bit-masked (c .args .bits) 11)
-
 pub unpack-spec : {M : Type 1} → statement M
+unfolding unpackOf
 unpack-spec =
     tie.close
     (tie.spec
     (λ c. search needs)
     (λ c. search needs)
-    cast-addr
+    (λ c. record { fits = omega (arith, field-masked (c .args .bits) 5 6) })
     (λ c. record { fits = omega (arith, mask-lt (c .args .bits) 6) })
     (λ c. search needs)
     (λ c. search needs)
-    cast-start
-    returns)
+    (λ c. record { fits = shr-lt 8 12 (lt-of-le-of-lt (and-le-l (c .args .bits) _) (omega arith)) })
+    (λ c. simp (field-masked (c .args .bits) 5 6, and-mask (c .args .bits) 6, field-masked (c .args .bits) 2 12, bit-masked (c .args .bits) 11)))

@@ -5,9 +5,6 @@ use Rattle.commands.specs.Rc6.{unpackOf}
 use Rattle.commands.proofs.rc6.Rc6Command.unpack.Statement.{statement}
 use Rattle.commands.proofs.rc6.Rc6Command.unpack.Tie as tie
 
-returns : tie.Need-returns
-unfolding unpackOf
-returns c = simp (and-mask (c .args .bits) 8)
-
 pub unpack-spec : {M : Type 1} → statement M
-unpack-spec = tie.close (tie.spec (λ c. search needs) (λ c. record { fits = mask-lt (c .args .bits) 8 }) returns)
+unfolding unpackOf
+unpack-spec = tie.close (tie.spec (λ c. search needs) (λ c. record { fits = mask-lt (c .args .bits) 8 }) (λ c. simp (and-mask (c .args .bits) 8)))

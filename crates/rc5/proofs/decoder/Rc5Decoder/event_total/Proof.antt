@@ -3,8 +3,5 @@ use borrow.Author.Needs.{needs}
 use Rattle.rc5.proofs.decoder.Rc5Decoder.event_total.Statement.{statement}
 use Rattle.rc5.proofs.decoder.Rc5Decoder.event_total.Tie as tie
 
-returns : tie.Need-returns
-returns c = simp (c .before .total-in .ensures)
-
 pub event-total-spec : {M : Type 1} → statement M
-event-total-spec = tie.close (tie.spec (λ c κs. search needs) returns)
+event-total-spec = tie.close (tie.spec (λ c κs. search needs) (λ c. simp (c .before .total-in .ensures)))

@@ -3,8 +3,5 @@ use borrow.Author.Needs.{needs}
 use Rattle.rc5.proofs.decoder.Rc5Decoder.new.Statement.{statement}
 use Rattle.rc5.proofs.decoder.Rc5Decoder.new.Tie as tie
 
-returns : tie.Need-returns
-returns c = simp (c .before .before .spans-of .ensures, c .fresh .ensures)
-
 pub new-spec : {M : Type 1} → statement M
-new-spec = tie.close (tie.spec (λ c κs. search needs) (λ c κs. search needs) returns)
+new-spec = tie.close (tie.spec (λ c κs. search needs) (λ c κs. search needs) (λ c. simp (c .before .before .spans-of .ensures, c .fresh .ensures)))

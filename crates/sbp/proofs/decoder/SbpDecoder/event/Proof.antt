@@ -3,8 +3,5 @@ use borrow.Author.Needs.{needs}
 use Rattle.sbp.proofs.decoder.SbpDecoder.event.Statement.{statement}
 use Rattle.sbp.proofs.decoder.SbpDecoder.event.Tie as tie
 
-returns : tie.Need-returns
-returns c = simp (c .again .ensures, c .before .before .event-in .ensures)
-
 pub event-spec : {M : Type 1} → statement M
-event-spec = tie.close (tie.spec (λ c κs. search needs) (λ c κs. search needs) returns)
+event-spec = tie.close (tie.spec (λ c κs. search needs) (λ c κs. search needs) (λ c. simp (c .again .ensures, c .before .before .event-in .ensures)))

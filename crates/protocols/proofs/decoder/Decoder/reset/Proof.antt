@@ -1,0 +1,7 @@
+-- `protocols::decoder::Decoder::reset` meets its contract, from that of reset_in. Assumes nothing.
+use borrow.Author.Needs.{needs}
+use Rattle.protocols.proofs.decoder.Decoder.reset.Statement.{statement}
+use Rattle.protocols.proofs.decoder.Decoder.reset.Tie as tie
+
+pub reset-spec : {M : Type 1} → statement M
+reset-spec = tie.close (tie.spec (λ c κs. search needs) (λ c. simp (c .reset-in .ensures)))

@@ -1,4 +1,0 @@
-pub mod Numbers
-pub mod Laws
-pub mod Room
-pub mod Determined

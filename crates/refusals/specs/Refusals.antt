@@ -1,0 +1,70 @@
+-- Document 01, "Refusal numbers, in the order they are tested": the numbers by name, which protocol numbers and which rates are taken, and the order.
+use Prim.Native.Nat.{ℕ}
+use mathlib.Core.List.{List, [], _∷_}
+use mathlib.Core.Bool.{Bool, true, cond, _&&_}
+use lib.Dec.{leb, eqb}
+
+-- nothing is refused
+abbrev pub none : ℕ
+none = 0
+
+-- "protocol is not 1 NEC, 2 RC5, 3 RC6, 4 SBP, 5 Denon (encode: not 1, 2, 3)"
+abbrev pub badProtocol : ℕ
+badProtocol = 2
+
+-- "rate is 0 or above 9,673,349"
+abbrev pub badRate : ℕ
+badRate = 1
+
+-- "bit counter above 31 (NEC), 12 (RC5), ..": what a decoder remembers tells
+abbrev pub pastEnd : ℕ
+pastEnd = 4
+
+-- "buffer shorter than the frame"
+abbrev pub shortBuffer : ℕ
+shortBuffer = 3
+
+-- x lies between two ends, both included
+abbrev pub within : ℕ → ℕ → ℕ → Bool
+within low x high = leb low x && leb x high
+
+abbrev pub protocolTaken : ℕ → Bool
+protocolTaken protocol = within 1 protocol 5
+
+abbrev pub encodeTaken : ℕ → Bool
+encodeTaken protocol = within 1 protocol 3
+
+abbrev pub rateTaken : ℕ → Bool
+rateTaken rate = within 1 rate 9673349
+
+-- the tests of a call: each with its number, and whether the call passes it
+abbrev pub Tests : Type 0
+Tests = List (ℕ × Bool)
+
+-- a number that is not among them is not tested
+abbrev pub passes : Tests → ℕ → Bool
+passes [] number = true
+passes (test ∷ tests) number = cond (eqb (test .0) number) (test .1) (passes tests number)
+
+-- "in the order they are tested": the first number that a call does not pass is its refusal, and with none it is taken
+abbrev pub inOrder : {Answer : Type 0} → Tests → (ℕ → Answer) → Answer → Answer
+inOrder tests refused taken =
+    cond (passes tests badProtocol)
+    (cond (passes tests badRate)
+    (cond (passes tests pastEnd)
+    (cond (passes tests shortBuffer) taken (refused shortBuffer))
+    (refused pastEnd))
+    (refused badRate))
+    (refused badProtocol)
+
+-- spans, a decoder or a polled receiver is asked for
+abbrev pub buildTests : ℕ → ℕ → Tests
+buildTests protocol rate = (badProtocol, protocolTaken protocol) ∷ (badRate, rateTaken rate) ∷ []
+
+-- a frame is asked for, of so many durations in a buffer of so many places
+abbrev pub frameTests : ℕ → ℕ → ℕ → Tests
+frameTests rate room length = (badRate, rateTaken rate) ∷ (shortBuffer, leb length room) ∷ []
+
+-- the same by protocol number
+abbrev pub encodeTests : ℕ → ℕ → ℕ → ℕ → Tests
+encodeTests protocol rate room length = (badProtocol, encodeTaken protocol) ∷ frameTests rate room length

@@ -1,0 +1,65 @@
+// Document 01, "Refusal numbers": the numbers by name, which protocol numbers and which rates are taken, and the order in which they are tested.
+ghost use mathlib.Core.Path.{_≡_};
+ghost use Rattle.refusals.specs.Refusals.{none, within, protocolTaken, encodeTaken, rateTaken, inOrder, buildTests};
+
+// Nothing is refused.
+pub const NONE: u32 = 0;
+
+// The rate is 0 or above 9,673,349.
+pub const BAD_RATE: u32 = 1;
+
+// The protocol is none that the call takes.
+pub const BAD_PROTOCOL: u32 = 2;
+
+// The buffer is shorter than the frame.
+pub const SHORT_BUFFER: u32 = 3;
+
+// A decoder's bit counter is past its end.
+pub const PAST_END: u32 = 4;
+
+// The last rate at which 444 × rate fits 32 bits.
+const LAST_RATE: u32 = 9673349;
+
+pub fn is_within(low: u32, x: u64, high: u32) -> bool
+    ensures { λ r. ⌜ r ≡ within low x high ⌝ }
+{
+    if low as u64 <= x {
+        x <= high as u64
+    } else {
+        false
+    }
+}
+
+// The protocols that have spans: 1 to 5.
+pub fn protocol_taken(protocol: u32) -> bool
+    ensures { λ r. ⌜ r ≡ protocolTaken protocol ⌝ }
+{
+    is_within(1, protocol as u64, 5)
+}
+
+// The protocols that have frames: 1 to 3.
+pub fn encode_taken(protocol: u32) -> bool
+    ensures { λ r. ⌜ r ≡ encodeTaken protocol ⌝ }
+{
+    is_within(1, protocol as u64, 3)
+}
+
+// The rates that every call takes.
+pub fn rate_taken(rate: u32) -> bool
+    ensures { λ r. ⌜ r ≡ rateTaken rate ⌝ }
+{
+    is_within(1, rate as u64, LAST_RATE)
+}
+
+// The refusal of spans, a decoder or a polled receiver.
+pub fn of_build(protocol: u32, rate: u32) -> u32
+    ensures { λ r. ⌜ r ≡ inOrder (buildTests protocol rate) (λ number. number) none ⌝ }
+{
+    if !protocol_taken(protocol) {
+        return BAD_PROTOCOL;
+    }
+    if !rate_taken(rate) {
+        return BAD_RATE;
+    }
+    NONE
+}
