@@ -95,9 +95,16 @@ where
     let mut receiver = PeriodicPoll::<P>::new(rate);
     let mut sum: u64 = 0;
     for &level in levels {
-        sum = add(sum, receiver.poll(level == 1));
+        sum = add(sum, poll(&mut receiver, level == 1));
     }
     sum
+}
+
+/// Kept out of line with the option `called`.
+#[cfg(polls)]
+#[cfg_attr(called, inline(never))]
+fn poll<P: DecoderFactory<u32>>(receiver: &mut PeriodicPoll<P>, level: bool) -> Result<Option<P::Cmd>, DecodingError> {
+    receiver.poll(level)
 }
 
 #[cfg(not(polls))]

@@ -6,8 +6,9 @@ BEGIN {
     split("mathlib", libraries, " ")
     known["use mathlib.Core.Path.{refl}"]
     total = short = 0
+    if (table) print "| call | contract | theorem |\n|---|---|---|"
     for (i = 1; i < ARGC; i++) read_crate(ARGV[i])
-    print total " public functions, " short " fall short"
+    if (!table || short) print total " public functions, " short " fall short"
     exit (short > 0 || total == 0)
 }
 
@@ -26,7 +27,7 @@ function read_crate(lib,   part, i) {
     for (i = 1; i <= modules; i++) read_source(i)
 }
 
-# ---- the theorems of a crate: theorem[PATH] for each function
+# ---- the theorems of a crate: theorem[PATH] is the name of each function's
 
 function read_theorems(   text, whole, at, number, i) {
     split("", path)
@@ -68,7 +69,7 @@ function take_line(at, text,   own, part, alias) {
             return
         }
         if (alias in stated && index(text, alias "-fixed M 𝓤 H 𝓜 𝓖 𝓡 = ") == 1) {
-            theorem[path[alias]]
+            theorem[path[alias]] = alias "-fixed"
             return
         }
     }
@@ -140,6 +141,7 @@ function read_impl(   w, type) {
 function read_function(is_public, type,   name, at, w, clauses) {
     name = word()
     at = line
+    contract = ""
     while ((w = word()) != "{" && !lost) {
         if (w ~ /^(ensures|requires|ghost)$/) {
             clauses = clauses " " w
@@ -160,6 +162,20 @@ function hold(at, name, clauses) {
     else if (clauses ~ /ghost/) fall(at, name " has a ghost value")
     else if (clauses !~ /ensures/) fall(at, name " has no ensures")
     else if (!(name in theorem)) fall(at, name " is missing from " list)
+    else if (table) print_row(name)
+}
+
+# The contract as the source states it, without the brackets about its clauses.
+function print_row(name) {
+    gsub(/ *λ [a-z_]+[.] ⌜ /, " ", contract)
+    gsub(/ ⌝ */, "", contract)
+    gsub(/^ |; *$/, "", contract)
+    print "| `" crate "::" dotless(name) "` | `" contract "` | `" theorem[name] "` |"
+}
+
+function dotless(name) {
+    gsub(/[.]/, "::", name)
+    return name
 }
 
 function pass_declaration(kind,   w) {
@@ -192,11 +208,13 @@ function pass_clause(   depth, sign) {
     for (depth = 1; depth > 0 && !lost;) {
         while (!match(rest, /[{}"]|[{]-|--|\/\/|\/[*]|«|⟦/)) if (!next_line()) return refuse("")
         sign = substr(rest, RSTART, RLENGTH)
+        contract = contract substr(rest, 1, RSTART - 1) (depth > 1 || sign == "{" ? sign : "")
         rest = substr(rest, RSTART + RLENGTH)
         if (sign == "{") depth++
         else if (sign == "}") depth--
         else refuse(sign)
     }
+    contract = contract "; "
 }
 
 # Words that begin an item, or a struct's ghost field: none stands within a header, a body or a declaration.
@@ -223,7 +241,8 @@ function next_line() {
         return 0
     }
     line++
-    gsub(/«[A-Za-z0-9_]+»/, "name", rest)
+    # a quoted name: each of the two quotes is two bytes
+    while (match(rest, /«[A-Za-z0-9_]+»/)) rest = substr(rest, 1, RSTART - 1) substr(rest, RSTART + 2, RLENGTH - 4) substr(rest, RSTART + RLENGTH)
     return 1
 }
 

@@ -8,7 +8,9 @@ use std::io::{self, BufRead, Write};
 use crate::calls::Call;
 use crate::document::{self, Protocol, Spans};
 use crate::encode;
+use crate::frames;
 use crate::oracle;
+use crate::send;
 use crate::slots::Slots;
 
 /// Who gave an answer.
@@ -24,6 +26,9 @@ pub enum Source {
     /// A sum of saved and new has passed 32 bits since the slot was opened: the crate's has gone
     /// round.
     AfterSum,
+    /// The crate cannot be asked: it names no bounds, and once a bit counter of a slot was set,
+    /// which it has no way to do, document 01 answers until the slot is opened again.
+    NotAsked,
     Refused,
     /// The slot holds nothing.
     NotOpen,
@@ -31,16 +36,17 @@ pub enum Source {
 }
 
 /// Those whose answer is document 01's alone.
-const DOCUMENT: [Source; 4] = [
+const DOCUMENT: [Source; 5] = [
     Source::OtherSpans,
     Source::AboveCrate,
     Source::NotBuilt,
     Source::AfterSum,
+    Source::NotAsked,
 ];
 
 /// How many answers each source gave, in the order of `Source`.
 #[derive(Default)]
-pub struct Counts([u64; 8]);
+pub struct Counts([u64; 9]);
 
 impl Counts {
     pub fn add(&mut self, source: Source) {
@@ -70,17 +76,20 @@ impl Counts {
 impl fmt::Display for Counts {
     fn fmt(&self, f: &mut fmt::Formatter) -> fmt::Result {
         let [by_crate, other_spans, above_crate, not_built, after_sum, rest @ ..] = self.0;
-        let [refused, not_open, not_understood] = rest;
+        let [not_asked, refused, not_open, not_understood] = rest;
         write!(
             f,
             "answered by the crate {}, by document 01 where the crate's spans differ {}, \
              by document 01 above 32 bits {}, by document 01 at a rate that is not built {}, \
-             by document 01 after a sum above 32 bits {}, refused {}, not open {}, not understood {}",
+             by document 01 after a sum above 32 bits {}, \
+             by document 01 where the crate cannot be asked {}, \
+             refused {}, not open {}, not understood {}",
             by_crate,
             other_spans,
             above_crate,
             not_built,
             after_sum,
+            not_asked,
             refused,
             not_open,
             not_understood
@@ -111,6 +120,12 @@ pub fn answer(call: &Call, slots: &mut Slots, text: &mut Vec<u8>) -> Source {
         } => return slots.polled(slot, protocol, rate, text),
         Call::Poll { slot, level, count } => return slots.poll(slot, level, count, text),
         Call::Idle { slot, count } => return slots.idle(slot, count, text),
+        Call::Counter {
+            slot,
+            is_last,
+            number,
+        } => return slots.count(slot, is_last, number, text),
+        Call::Bounds { protocol } => bounds(protocol),
     };
     let (shown, source) =
         told.unwrap_or_else(|refusal| (format!("refused {}", refusal), Source::Refused));
@@ -145,6 +160,14 @@ fn lookup(protocol: u32, rate: u32, duration: u64) -> Told {
     let protocol = document::admit(protocol, rate)?;
     let (place, source) = expected_place(protocol, rate, duration);
     Ok((show_place(place, "place "), source))
+}
+
+fn bounds(protocol: u32) -> Told {
+    let [silence, deviation] = send::bounds(frames::admit(protocol, send::RATE)?);
+    Ok((
+        format!("bounds {} {}", silence, deviation),
+        Source::NotAsked,
+    ))
 }
 
 /// The spans and who gave them.

@@ -1,5 +1,6 @@
 //! The call language: one call a line, a name and its numbers, separated by exactly one blank.
-//! A new call is a case of `Call`, a line in `Words::call` and in `fmt`, and its answer in answers.rs.
+//! A new call is a case of `Call` or `Ask`, a line where `Words` reads it and where it is written,
+//! and its answer in answers.rs or slots.rs.
 
 use std::convert::TryFrom;
 use std::fmt;
@@ -39,6 +40,15 @@ pub enum Call {
     },
     /// So many polls with the level that was seen last.
     Idle { slot: usize, count: u32 },
+    /// A protocol's first or last bit counter is set. From slot 8 on it is that of the polled
+    /// receiver of eight less.
+    Counter {
+        slot: usize,
+        is_last: bool,
+        number: u32,
+    },
+    /// The least silence and the most deviation of demand 3.
+    Bounds { protocol: u32 },
 }
 
 /// The slots are 0 to 7.
@@ -56,6 +66,16 @@ pub enum Ask {
     Edge(Edge),
     Command,
     Reset,
+    /// A frame goes to the decoder.
+    Send(Send),
+}
+
+/// A command of the decoder's protocol as it is sent at 1 MHz: after a silence, with a deviation of
+/// each duration.
+pub struct Send {
+    pub command: Command,
+    pub silence: u32,
+    pub deviation: u32,
 }
 
 /// An edge, and the time since the one before.
@@ -101,13 +121,7 @@ impl fmt::Display for Call {
                 protocol,
                 rate,
             } => write!(f, "open {} {} {}", slot, protocol, rate),
-            Call::Ask { slot, ask } => match ask {
-                Ask::Event(edge) => write!(f, "event {} {}", slot, edge),
-                Ask::Total(edge) => write!(f, "total {} {}", slot, edge),
-                Ask::Edge(edge) => write!(f, "edge {} {}", slot, edge),
-                Ask::Command => write!(f, "command {}", slot),
-                Ask::Reset => write!(f, "reset {}", slot),
-            },
+            Call::Ask { slot, ask } => ask.write(f, *slot),
             Call::Polled {
                 slot,
                 protocol,
@@ -117,7 +131,32 @@ impl fmt::Display for Call {
                 write!(f, "poll {} {} {}", slot, u8::from(*level), count)
             }
             Call::Idle { slot, count } => write!(f, "idle {} {}", slot, count),
+            Call::Counter {
+                slot,
+                is_last,
+                number,
+            } => write!(f, "counter {} {} {}", slot, u8::from(*is_last), number),
+            Call::Bounds { protocol } => write!(f, "bounds {}", protocol),
         }
+    }
+}
+
+impl Ask {
+    fn write(&self, f: &mut fmt::Formatter, slot: usize) -> fmt::Result {
+        match self {
+            Ask::Event(edge) => write!(f, "event {} {}", slot, edge),
+            Ask::Total(edge) => write!(f, "total {} {}", slot, edge),
+            Ask::Edge(edge) => write!(f, "edge {} {}", slot, edge),
+            Ask::Command => write!(f, "command {}", slot),
+            Ask::Reset => write!(f, "reset {}", slot),
+            Ask::Send(sent) => write!(f, "send {} {}", slot, sent),
+        }
+    }
+}
+
+impl fmt::Display for Send {
+    fn fmt(&self, f: &mut fmt::Formatter) -> fmt::Result {
+        write!(f, "{} {} {}", self.command, self.silence, self.deviation)
     }
 }
 
@@ -129,10 +168,18 @@ impl fmt::Display for Edge {
 
 impl fmt::Display for Encode {
     fn fmt(&self, f: &mut fmt::Formatter) -> fmt::Result {
-        write!(f, "{} {}", self.protocol, self.rate)?;
-        let told = &self.command;
-        write!(f, " {} {} {}", told.address, told.command, told.start)?;
-        write!(f, " {} {}", u8::from(told.toggle), self.room)
+        write!(
+            f,
+            "{} {} {} {}",
+            self.protocol, self.rate, self.command, self.room
+        )
+    }
+}
+
+impl fmt::Display for Command {
+    fn fmt(&self, f: &mut fmt::Formatter) -> fmt::Result {
+        write!(f, "{} {} {}", self.address, self.command, self.start)?;
+        write!(f, " {}", u8::from(self.toggle))
     }
 }
 
@@ -166,30 +213,50 @@ impl<'a, I: Iterator<Item = &'a [u8]>> Words<I> {
                 duration: self.number()?,
             },
             b"encode" => Call::Encode(self.encode()?),
+            b"counter" => Call::Counter {
+                slot: self.number_up_to(2 * SLOTS - 1)?,
+                is_last: self.flag()?,
+                number: self.number()?,
+            },
+            b"bounds" => Call::Bounds {
+                protocol: self.number()?,
+            },
+            name => self.slot_call(name)?,
+        })
+    }
+
+    /// The same, of a call on one of eight slots.
+    fn slot_call(&mut self, name: &[u8]) -> Option<Call> {
+        let slot = self.number_up_to(SLOTS - 1)?;
+        Some(match name {
             b"open" => Call::Open {
-                slot: self.number_up_to(SLOTS - 1)?,
+                slot,
                 protocol: self.number()?,
                 rate: self.number()?,
             },
             b"polled" => Call::Polled {
-                slot: self.number_up_to(SLOTS - 1)?,
+                slot,
                 protocol: self.number()?,
                 rate: self.number()?,
             },
             b"poll" => Call::Poll {
-                slot: self.number_up_to(SLOTS - 1)?,
-                level: self.number_up_to(1)? == 1,
+                slot,
+                level: self.flag()?,
                 count: self.polls()?,
             },
             b"idle" => Call::Idle {
-                slot: self.number_up_to(SLOTS - 1)?,
+                slot,
                 count: self.number()?,
             },
             name => Call::Ask {
-                slot: self.number_up_to(SLOTS - 1)?,
+                slot,
                 ask: self.ask(name)?,
             },
         })
+    }
+
+    fn flag(&mut self) -> Option<bool> {
+        Some(self.number_up_to(1)? == 1)
     }
 
     fn encode(&mut self) -> Option<Encode> {
@@ -209,6 +276,11 @@ impl<'a, I: Iterator<Item = &'a [u8]>> Words<I> {
             b"edge" => Ask::Edge(self.edge()?),
             b"command" => Ask::Command,
             b"reset" => Ask::Reset,
+            b"send" => Ask::Send(Send {
+                command: self.command()?,
+                silence: self.number()?,
+                deviation: self.number()?,
+            }),
             _ => return None,
         })
     }
@@ -219,7 +291,7 @@ impl<'a, I: Iterator<Item = &'a [u8]>> Words<I> {
 
     fn edge(&mut self) -> Option<Edge> {
         Some(Edge {
-            rising: self.number_up_to(1)? == 1,
+            rising: self.flag()?,
             duration: self.number()?,
         })
     }
@@ -229,7 +301,7 @@ impl<'a, I: Iterator<Item = &'a [u8]>> Words<I> {
             address: self.number()?,
             command: self.number()?,
             start: self.number()?,
-            toggle: self.number_up_to(1)? == 1,
+            toggle: self.flag()?,
         })
     }
 }

@@ -1,5 +1,5 @@
-//! Outputs that take nothing: each program must end by itself. Where no signal ends it, replay says
-//! that answers are lost; nothing else is said.
+//! Outputs that take nothing: replay and tools/tour must end by themselves. Where no signal ends
+//! them they say that answers are lost; nothing else is said.
 
 use std::ffi::OsString;
 use std::io;
@@ -13,108 +13,114 @@ const BY_PIPE: End = End::Signal(13);
 
 const DONE: End = End::Status(0);
 
-/// The run that has nothing to write.
-const NO_INPUT: &str = "replay, no input";
-
-/// What replay says where its output takes nothing and no signal ends it.
-const LOST: &[u8] = b"replay: the output takes no more\n";
-
-/// Where the output goes, and how a program may end that has something to write: in more than one
-/// way where it hangs on who is faster.
-struct Case {
-    name: &'static str,
-    output: Output,
-    ends: &'static [End],
+/// How a run that has something to write may end: in more than one way where it hangs on who is
+/// faster.
+#[derive(Clone, Copy, PartialEq)]
+enum Way {
+    Lost,
+    ByPipe,
+    Either,
 }
 
-const fn case(name: &'static str, output: Output, ends: &'static [End]) -> Case {
-    Case { name, output, ends }
-}
-
-static CASES: [Case; 5] = [
-    case("closed (>&-)", Output::Closed, &[DONE]),
-    case("a full device", Output::Full, &[DONE]),
-    case("a pipe without a reader", Output::NoReader, &[BY_PIPE]),
-    case("the same, its signal ignored", Output::NoSignal, &[DONE]),
-    case(
+static CASES: [(&str, Output, Way); 5] = [
+    ("closed (>&-)", Output::Closed, Way::Lost),
+    ("a full device", Output::Full, Way::Lost),
+    ("a pipe without a reader", Output::NoReader, Way::ByPipe),
+    ("the same, its signal ignored", Output::NoSignal, Way::Lost),
+    (
         "a reader that goes after a line",
         Output::OneLine,
-        &[BY_PIPE, DONE],
+        Way::Either,
     ),
 ];
 
 /// How the runs of each case ended, a line each.
-pub fn run(program: &Program, part: &mut Part) -> io::Result<Vec<String>> {
+pub fn run(tour: &Program, replay: &Program, part: &mut Part) -> io::Result<Vec<String>> {
     let mut told = Vec::new();
-    for case in &CASES {
+    for (name, output, way) in CASES {
         let mut ends = Vec::new();
-        for (name, words, input) in runs()? {
-            let ended = program.run(&words, input, case.output)?;
-            let input = format!("{}, {}", name, case.name);
-            part.tried(case.name, input.as_bytes(), ended.end != End::Never);
-            let wrong = is_wrong(case, name, &ended);
+        for run in runs(tour, replay)? {
+            let wanted = run.wanted(way);
+            let ended = run.program.run(&run.words, run.input, output)?;
+            let input = format!("{}, {}", run.name, name);
+            part.tried(name, input.as_bytes(), ended.end != End::Never);
+            let wrong = is_wrong(&wanted, output, &ended);
             part.note(wrong.then(|| format!("{}: {}", input, show(&ended))));
             ends.push(ended.end);
         }
-        told.push(format!("{}: {}", case.name, case.show(&ends)));
+        told.push(format!("{}: {}", name, show_ends(way, &ends)));
     }
     Ok(told)
 }
 
-/// A run's name, its words and its input.
-type Run = (&'static str, Vec<OsString>, Input);
-
-fn one_run(name: &'static str, words: &str, input: Input) -> Run {
-    (name, words.split(' ').map(OsString::from).collect(), input)
+struct Run<'a> {
+    name: &'static str,
+    program: &'a Program<'a>,
+    words: Vec<OsString>,
+    input: Input,
+    /// Its status, and what it says, where what it writes is lost; none where it writes nothing.
+    lost: Option<(i32, &'static str)>,
 }
 
 /// The answers to the many calls do not fit a pipe.
-fn runs() -> io::Result<Vec<Run>> {
+fn runs<'a>(tour: &'a Program, replay: &'a Program) -> io::Result<Vec<Run<'a>>> {
     let call = b"lookup 3 1000000 1989\n".to_vec();
     let calls = [recorded_lines()?.join(&b'\n'), b"\n".to_vec()].concat();
     let endless = Input::Endless(call.repeat(1000));
-    let none = || Input::Once(Vec::new());
+    let lost = Some((0, "replay: the output takes no more\n"));
+    let answers = |name, input, lost| Run {
+        name,
+        program: replay,
+        words: Vec::new(),
+        input,
+        lost,
+    };
+    let shows = |name, words: &[&str]| Run {
+        name,
+        program: tour,
+        words: words.iter().map(OsString::from).collect(),
+        input: Input::Once(Vec::new()),
+        lost: Some((1, "tour: the output takes no more\n")),
+    };
     Ok(vec![
-        one_run(NO_INPUT, "replay", none()),
-        one_run("replay, one call", "replay", Input::Once(call)),
-        one_run("replay, many calls", "replay", Input::Once(calls.repeat(3))),
-        one_run("replay, calls without end", "replay", endless),
-        one_run("tour", "tour", none()),
-        one_run("tour spans", "tour spans", none()),
-        one_run("tour, bad words", "tour frame 1 x", none()),
+        answers("replay, no input", Input::Once(Vec::new()), None),
+        answers("replay, one call", Input::Once(call), lost),
+        answers("replay, many calls", Input::Once(calls.repeat(3)), lost),
+        answers("replay, calls without end", endless, lost),
+        shows("tour", &[]),
+        shows("tour spans", &["spans"]),
+        shows("tour help", &["help"]),
     ])
 }
 
-fn is_wrong(case: &Case, name: &str, ended: &Ended) -> bool {
-    let ends = if name == NO_INPUT { &[DONE] } else { case.ends };
-    let is_kept = case.output == Output::OneLine || ended.output.is_empty();
-    !(ends.contains(&ended.end) && ended.errors == case.errors(name) && is_kept)
-}
-
-impl Case {
-    /// What a run says on standard error.
-    fn errors(&self, name: &str) -> &'static [u8] {
-        let is_lost = name.starts_with("replay") && name != NO_INPUT;
-        if is_lost && !self.ends.contains(&BY_PIPE) {
-            LOST
-        } else {
-            b""
+impl Run<'_> {
+    /// How it may end, and what it says.
+    fn wanted(&self, way: Way) -> (Vec<End>, &'static str) {
+        match (self.lost, way) {
+            (None, _) => (vec![DONE], ""),
+            (Some((status, said)), Way::Lost) => (vec![End::Status(status)], said),
+            (_, Way::ByPipe) => (vec![BY_PIPE], ""),
+            (_, Way::Either) => (vec![BY_PIPE, DONE], ""),
         }
     }
+}
 
-    /// The ends and how often each came; it is left open where it hangs on who is faster.
-    fn show(&self, ends: &[End]) -> String {
-        let told = |end: &End| {
-            let count = ends.iter().filter(|&other| other == end).count();
-            format!("{} of {}", end.show(), count)
-        };
-        if self.ends.len() > 1 && ends.iter().all(|end| self.ends.contains(end)) {
-            let names: Vec<String> = self.ends.iter().map(|end| end.show()).collect();
-            return names.join(" or ");
+fn is_wrong((ends, said): &(Vec<End>, &str), output: Output, ended: &Ended) -> bool {
+    let is_kept = output == Output::OneLine || ended.output.is_empty();
+    !(ends.contains(&ended.end) && ended.errors == said.as_bytes() && is_kept)
+}
+
+/// The ends and how often each came; left open where it hangs on who is faster.
+fn show_ends(way: Way, ends: &[End]) -> String {
+    let mut shown = Vec::new();
+    for (place, end) in ends.iter().enumerate() {
+        let count = ends.iter().filter(|&other| other == end).count();
+        if way != Way::Either && !ends[..place].contains(end) {
+            shown.push(format!("{} of {}", end.show(), count));
         }
-        let is_first = |&(place, end): &(usize, &End)| !ends[..place].contains(end);
-        let firsts = ends.iter().enumerate().filter(is_first);
-        let shown: Vec<String> = firsts.map(|(_, end)| told(end)).collect();
-        shown.join(", ")
+    }
+    match way {
+        Way::Either => "each by the signal or with exit status 0".to_string(),
+        _ => shown.join(", "),
     }
 }

@@ -4,10 +4,13 @@
 use std::iter;
 
 use crate::answers::{expected_spans, Source};
-use crate::calls::{Ask, Call, Edge, SLOTS};
+use crate::calls::{Ask, Call, Edge, Send, SLOTS};
 use crate::document::Protocol;
 use crate::edge_kinds::Maker;
+use crate::frame_lists::command_of;
+use crate::frames;
 use crate::lists::{Calls, RATES};
+use crate::send;
 
 const MHZ: u32 = 1_000_000;
 
@@ -112,11 +115,14 @@ impl Run {
         if self.once_in(8) {
             calls.push(self.ask(Ask::Reset));
         }
-        if self.once_in(64) {
-            self.past_32_bits(&mut calls);
-        } else {
-            let edges = self.maker.edges();
-            self.ask_all(edges, &mut calls);
+        match self.maker.random.below(64) {
+            0 => self.past_32_bits(&mut calls),
+            1 => self.counted(&mut calls),
+            2..=5 => self.sent(&mut calls),
+            _ => {
+                let edges = self.maker.edges();
+                self.ask_all(edges, &mut calls);
+            }
         }
         if self.once_in(4) {
             calls.push(self.ask(Ask::Command));
@@ -149,6 +155,33 @@ impl Run {
             self.ask_all(edges, calls);
         }
         self.open(calls);
+    }
+
+    /// A bit counter is set, at times past its end, and edges follow. The crate answers again from
+    /// the next `open` on.
+    fn counted(&mut self, calls: &mut Vec<Call>) {
+        for _ in 0..2 {
+            calls.push(self.maker.random.counter_call(self.slot));
+            let edges = self.maker.edges();
+            self.ask_all(edges, calls);
+        }
+        self.open(calls);
+    }
+
+    /// A frame is sent, about the bounds of demand 3.
+    fn sent(&mut self, calls: &mut Vec<Call>) {
+        let random = &mut self.maker.random;
+        let command = command_of(random.below(1 << 25));
+        let bounds = frames::admit(self.protocol.number(), send::RATE).map(send::bounds);
+        let [silence, deviation] = bounds.unwrap_or([0; 2]);
+        let send = Send {
+            command,
+            silence: random.one_of(&[silence, silence + 1, silence.max(1) - 1, 11250, u32::MAX]),
+            deviation: random.one_of(&[0, deviation, deviation + 1, deviation.wrapping_neg()]),
+        };
+        // its last edge rises, or nothing is saved
+        self.saved = 0;
+        calls.push(self.ask(Ask::Send(send)));
     }
 
     /// Some sections are disturbed by commands and resets.

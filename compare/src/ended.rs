@@ -75,10 +75,11 @@ impl Program<'_> {
             .stderr(Stdio::piped())
             .spawn()?;
         let stdin = child.stdin.take().expect("the program's input is a pipe");
-        // A reader that goes at once goes here, long before anything is written.
+        // A reader that goes at once goes here; the shell waits for a line before it runs the program.
         let stdout = child.stdout.take().filter(|_| !output.has_no_reader());
         let stderr = child.stderr.take().expect("its errors are a pipe");
-        let writer = thread::spawn(move || feed(stdin, input));
+        let before: &[u8] = if output.has_no_reader() { b"\n" } else { b"" };
+        let writer = thread::spawn(move || feed(stdin, before, input));
         let reader =
             thread::spawn(move || stdout.map_or(Ok(Vec::new()), |from| taken(from, output)));
         let errors = thread::spawn(move || read_all(stderr));
@@ -91,13 +92,14 @@ impl Program<'_> {
         })
     }
 
-    /// The shell closes an output, or ignores a signal, and becomes the program.
+    /// The shell closes an output, ignores a signal or waits for a line, and becomes the program.
     fn command(&self, output: Output) -> Command {
         let before = match output {
-            Output::Kept | Output::NoReader | Output::OneLine => "",
+            Output::Kept | Output::OneLine => "",
             Output::Closed => "exec >&-; ",
             Output::Full => "exec >/dev/full; ",
-            Output::NoSignal => "trap '' PIPE; ",
+            Output::NoReader => "read -r line; ",
+            Output::NoSignal => "read -r line; trap '' PIPE; ",
         };
         let mut command = if before.is_empty() {
             Command::new(self.name)
@@ -116,7 +118,8 @@ impl Program<'_> {
 }
 
 /// A program may end before it has read all: what is not read is no fault.
-fn feed(mut to: ChildStdin, input: Input) {
+fn feed(mut to: ChildStdin, before: &[u8], input: Input) {
+    let _ = to.write_all(before);
     match input {
         Input::Once(text) => {
             let _ = to.write_all(&text);

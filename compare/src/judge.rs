@@ -1,6 +1,6 @@
-//! Who answers the calls on a slot: the crate where its spans are document 01's and no sum of
-//! saved and new has passed 32 bits since the slot was opened, else document 01. Where the crate
-//! answers, document 01 says the same, or we end here.
+//! Who answers the calls on a slot: the crate where its spans are document 01's, and since the slot
+//! was opened no sum of saved and new has passed 32 bits and no bit counter was set; else document
+//! 01. Where the crate answers, document 01 says the same, or we end here.
 
 use std::fmt::Debug;
 
@@ -12,7 +12,7 @@ use crate::model::Decoder;
 pub struct Judge {
     /// What the slot holds.
     name: &'static str,
-    protocol: Protocol,
+    pub protocol: Protocol,
     rate: u32,
     source: Source,
     /// Edges since the slot was opened.
@@ -37,9 +37,19 @@ impl Judge {
     /// From a sum above 32 bits on the crate is not asked: it goes round.
     pub fn before(&mut self, document: &Decoder, edge: &Edge) {
         self.edges += 1;
-        let passes = document.passes_32_bits(edge.rising, edge.duration);
-        if passes && self.source == Source::Crate {
-            self.source = Source::AfterSum;
+        if document.passes_32_bits(edge.rising, edge.duration) {
+            self.leave_crate(Source::AfterSum);
+        }
+    }
+
+    /// From here on the crate is not asked: its counter cannot be set from outside.
+    pub fn counted(&mut self) {
+        self.leave_crate(Source::NotAsked);
+    }
+
+    fn leave_crate(&mut self, source: Source) {
+        if self.source == Source::Crate {
+            self.source = source;
         }
     }
 

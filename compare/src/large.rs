@@ -172,7 +172,7 @@ fn print_part(out: &mut impl Write, part: &Part, tally: &Tally) -> io::Result<()
     writeln!(
         out,
         "part {:12}{:>8}: by the crate {}, by document 01 {}, refused {}, \
-         commands reported {}, errors reported {}, polls {}",
+         commands reported {}, errors reported {}, refusals reported {}, polls {}",
         part.name,
         counts.all(),
         counts.of(Source::Crate),
@@ -180,6 +180,7 @@ fn print_part(out: &mut impl Write, part: &Part, tally: &Tally) -> io::Result<()
         counts.of(Source::Refused),
         reported.commands,
         reported.errors,
+        reported.refusals,
         reported.polls
     )
 }

@@ -7,6 +7,7 @@ use crate::document::{self, Protocol, PROTOCOLS};
 use crate::edge_lists;
 use crate::frame_lists;
 use crate::poll_lists;
+use crate::random::Random;
 
 pub type Calls = Box<dyn Iterator<Item = Call> + Send>;
 
@@ -62,6 +63,25 @@ const fn longer_part(name: &'static str, calls: fn(u32) -> Calls) -> Part {
 pub fn part_named(name: &str) -> Option<&'static [Part]> {
     let named = PARTS.iter().find(|part| part.name == name);
     named.map(std::slice::from_ref)
+}
+
+/// About the ends of the seven bit counters.
+const COUNTERS: [u32; 13] = [0, 3, 4, 12, 13, 15, 16, 19, 20, 31, 32, 47, 48];
+
+impl Random {
+    /// A bit counter at or past its end, or anywhere.
+    pub fn counter_call(&mut self, slot: usize) -> Call {
+        let any = self.next() as u32 >> self.below(32);
+        Call::Counter {
+            slot,
+            is_last: self.once_in(2),
+            number: if self.once_in(8) {
+                any
+            } else {
+                self.one_of(&COUNTERS)
+            },
+        }
+    }
 }
 
 /// The rates of the large run: at the turns of the rules and of the crate's arithmetic,

@@ -31,6 +31,7 @@ mod random;
 mod rates;
 mod receivers;
 mod recorded;
+mod recorded_counters;
 mod recorded_frames;
 mod recorded_polls;
 mod recorded_pulses;
@@ -40,10 +41,10 @@ mod recorded_slots;
 mod recorded_steps;
 mod reports;
 mod scene;
+mod send;
 mod slots;
 mod text;
 mod tour;
-mod tour_send;
 
 use std::env;
 use std::ffi::OsString;
@@ -62,12 +63,11 @@ const USAGE: &str = "usage:
   compare large [--part NAME] [--times N] PROGRAM [ARGS..]
                                      the large run against a program; the parts of edges
                                      and of polls are made N times longer
-  compare mutated [--times N] PROGRAM [ARGS..]
-                                     bad input to the program with the word replay or tour
-                                     after ARGS: mutated lines, files and words, closed
-                                     outputs; N passes
+  compare mutated [--times N] TOUR PROGRAM [ARGS..]
+                                     bad input: mutated lines and files to the program,
+                                     mutated words to TOUR, closed outputs of both; N passes
   compare rates                      where the crate's spans are ours, over every rate
-  compare tour WORDS..               what the program tour prints
+  compare tour [WORDS..]             what tools/tour prints
 the parts of the large run:";
 
 fn main() -> ExitCode {
@@ -107,13 +107,17 @@ fn run(words: &[OsString]) -> io::Result<Option<bool>> {
             _ => Ok(None),
         },
         ("mutated", words) => match choose_times(words) {
-            Some((times, [name, words @ ..])) => {
-                mutated::run(out, times, &Program { name, words }).map(Some)
+            Some((times, [tour, name, words @ ..])) => {
+                let tour = Program {
+                    name: tour,
+                    words: &[],
+                };
+                mutated::run(out, times, &tour, &Program { name, words }).map(Some)
             }
             _ => Ok(None),
         },
         ("rates", []) => rates::run(out).map(Some),
-        ("tour", words) => tour::run(out, words),
+        ("tour", words) => tour::run(out, words).map(|is_understood| is_understood.then_some(true)),
         _ => Ok(None),
     };
     out.flush()?;

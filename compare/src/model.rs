@@ -47,7 +47,33 @@ impl Decoder {
         }
     }
 
+    /// Sets the first or the last bit counter of the protocol: that becomes the state, also past its
+    /// end. A counter has as many bits as the crate's, and the number's lowest go into it.
+    pub fn count(&mut self, is_last: bool, number: u32) {
+        self.state = match self.protocol {
+            Protocol::Rc6 if !is_last => State::Header(number),
+            Protocol::Sbp if !is_last => State::Address(number & 0xFFFF),
+            Protocol::Sbp => State::Data(number & 0xFFFF),
+            Protocol::Rc5 | Protocol::Denon => State::Data(number & 0xFF),
+            Protocol::Nec | Protocol::Rc6 => State::Data(number),
+        };
+    }
+
+    /// Refusal 4.
+    pub fn is_past_end(&self) -> bool {
+        match self.state {
+            State::Header(bit) => bit > 3,
+            State::Address(bit) => bit > 15,
+            State::Data(bit) => bit > [31, 12, 15, 19, 47][self.protocol.index()],
+            _ => false,
+        }
+    }
+
+    /// A refusal leaves the state as it was.
     pub fn event(&mut self, rising: bool, duration: u32) -> Status {
+        if self.is_past_end() {
+            return Status::PastEnd;
+        }
         if !self.protocol.saves() {
             self.run_edge(rising, u64::from(duration));
         } else if rising {
@@ -65,6 +91,7 @@ impl Decoder {
         let report = match (status, heard) {
             (Status::Done, Some(heard)) => Report::Command(heard),
             (Status::Error(fault), _) => Report::Error(fault),
+            (Status::PastEnd, _) => Report::PastEnd,
             _ => Report::Nothing,
         };
         if matches!(status, Status::Done | Status::Error(_)) {

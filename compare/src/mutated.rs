@@ -1,5 +1,5 @@
-//! Bad input to the programs replay and tour: each input is made by a fixed generator, and what
-//! comes is compared with what the driver's own reading expects.
+//! Bad input to the program replay and to tools/tour: each input is made by a fixed generator, and
+//! what comes is compared with what the driver's own reading expects.
 
 use std::collections::hash_map::DefaultHasher;
 use std::collections::HashSet;
@@ -101,7 +101,7 @@ impl Part {
 }
 
 /// Whether all came as expected; prints what was tried, and what is wrong.
-pub fn run(out: &mut impl Write, times: u32, program: &Program) -> io::Result<bool> {
+pub fn run(out: &mut impl Write, times: u32, tour: &Program, replay: &Program) -> io::Result<bool> {
     let mut lines = Part::new(
         "mutated lines to replay, all of a pass in one run",
         "still calls",
@@ -109,14 +109,14 @@ pub fn run(out: &mut impl Write, times: u32, program: &Program) -> io::Result<bo
     let mut files = Part::new("mutated files to replay, a run each", "with a call");
     let mut words = Part::new("mutated words to tour, a run each", "still understood");
     let mut outputs = Part::new("outputs that take nothing, a run each", "ended by itself");
-    let counts = mutated_lines::run(program, times, &mut lines)?;
+    let counts = mutated_lines::run(replay, times, &mut lines)?;
     lines.print(out)?;
     writeln!(out, "with the recorded lines between them: {}", counts)?;
-    mutated_files::run(program, times, &mut files)?;
+    mutated_files::run(replay, times, &mut files)?;
     files.print(out)?;
-    mutated_words::run(program, times, &mut words)?;
+    mutated_words::run(tour, times, &mut words)?;
     words.print(out)?;
-    let ends = closed::run(program, &mut outputs)?;
+    let ends = closed::run(tour, replay, &mut outputs)?;
     outputs.print(out)?;
     for end in ends {
         writeln!(out, "  {}", end)?;

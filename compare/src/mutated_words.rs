@@ -1,4 +1,4 @@
-//! Mutated words to tour, a run each: words that it understands, changed in one or two ways.
+//! Mutated words to tools/tour, a run each: words that it understands, changed in one or two ways.
 
 use std::ffi::OsString;
 use std::io;
@@ -8,19 +8,22 @@ use crate::ended::{End, Ended, Input, Output, Program};
 use crate::mutate::{self, renumber, EDGES};
 use crate::mutated::{show, shown, Part};
 use crate::random::Random;
-use crate::tour::{self, LONGEST_WORD, NOT_UNDERSTOOD};
+use crate::tour::{self, LONGEST_WORD};
 
 const SEED: u64 = 3;
 
-/// In a pass.
+/// In a pass. A run starts a script, and takes some ten milliseconds.
 const RUNS: usize = 1000;
+
+const NOT_UNDERSTOOD: &[u8] = b"not understood: ./run help lists what is\n";
 
 /// How the list of what is understood begins.
 const HELP: &[u8] = b"./run\n";
 
-const UNDERSTOOD: [&str; 14] = [
+const UNDERSTOOD: [&str; 15] = [
     "",
     "help",
+    "calls",
     "spans",
     "spans 38000",
     "spans 38000 100",
@@ -37,57 +40,41 @@ const UNDERSTOOD: [&str; 14] = [
 
 type Words = Vec<Vec<u8>>;
 
-struct Kind {
-    name: &'static str,
-    make: fn(&mut Random, &mut Words),
+/// Changes one word, or the list of them.
+enum Make {
+    Word(fn(&mut Random, &[u8], &[u8]) -> Vec<u8>),
+    Words(fn(&mut Random, &mut Words)),
 }
 
-const fn kind(name: &'static str, make: fn(&mut Random, &mut Words)) -> Kind {
-    Kind { name, make }
-}
+use Make::{Word, Words as All};
 
-static KINDS: [Kind; 17] = [
-    kind("a bit flipped", |random, words| {
-        change(random, words, mutate::flipped)
-    }),
-    kind("a byte removed", |random, words| {
-        change(random, words, mutate::removed)
-    }),
-    kind("a byte doubled", |random, words| {
-        change(random, words, mutate::doubled)
-    }),
-    kind("a byte replaced", |random, words| {
-        change(random, words, mutate::replaced)
-    }),
-    kind("a byte put in", |random, words| {
-        change(random, words, mutate::put_in)
-    }),
-    kind("a word cut", |random, words| {
-        change(random, words, mutate::cut)
-    }),
-    kind("a number at an edge", |random, words| {
-        change(random, words, |random, _, _| {
-            random.one_of(&EDGES).as_bytes().to_vec()
-        })
-    }),
-    kind("a number replaced", |random, words| {
-        change(random, words, |random, _, _| renumber(random).into_bytes())
-    }),
-    kind("leading zeros", |random, words| {
-        change(random, words, zeros)
-    }),
-    kind("a long word", |random, words| change(random, words, long)),
-    kind("an empty word", |random, words| {
-        change(random, words, |_, _, _| Vec::new())
-    }),
-    kind("a word removed", word_removed),
-    kind("a word doubled", word_doubled),
-    kind("a word put in", word_put_in),
-    kind("two words swapped", words_swapped),
-    kind("all words joined", |_, words| {
-        *words = vec![words.join(&b' ')]
-    }),
-    kind("many words", many_words),
+static KINDS: [(&str, Make); 17] = [
+    ("a bit flipped", Word(mutate::flipped)),
+    ("a byte removed", Word(mutate::removed)),
+    ("a byte doubled", Word(mutate::doubled)),
+    ("a byte replaced", Word(mutate::replaced)),
+    ("a byte put in", Word(mutate::put_in)),
+    ("a word cut", Word(mutate::cut)),
+    (
+        "a number at an edge",
+        Word(|random, _, _| random.one_of(&EDGES).into()),
+    ),
+    (
+        "a number replaced",
+        Word(|random, _, _| renumber(random).into()),
+    ),
+    ("leading zeros", Word(zeros)),
+    ("a long word", Word(long)),
+    ("an empty word", Word(|_, _, _| Vec::new())),
+    ("a word removed", All(word_removed)),
+    ("a word doubled", All(word_doubled)),
+    ("a word put in", All(word_put_in)),
+    ("two words swapped", All(words_swapped)),
+    (
+        "all words joined",
+        All(|_, words| *words = vec![words.join(&b' ')]),
+    ),
+    ("many words", All(many_words)),
 ];
 
 pub fn run(program: &Program, times: u32, part: &mut Part) -> io::Result<()> {
@@ -97,12 +84,11 @@ pub fn run(program: &Program, times: u32, part: &mut Part) -> io::Result<()> {
         part.note(Some(format!("tour help: {}", show(&help))));
     }
     for number in 0..RUNS * times as usize {
-        let kind = &KINDS[number % KINDS.len()];
-        let words = made(kind, &mut random);
+        let (kind, make) = &KINDS[number % KINDS.len()];
+        let words = made(make, &mut random);
         let given: Vec<OsString> = words.iter().cloned().map(OsString::from_vec).collect();
         let expected = expected(&given, &help.output)?;
-        let is_understood = expected.output != NOT_UNDERSTOOD.as_bytes();
-        part.tried(kind.name, &words.join(&0), is_understood);
+        part.tried(kind, &words.join(&0), expected.end == End::Status(0));
         let ended = told(program, &given)?;
         let is_wrong = ended != expected;
         part.note(is_wrong.then(|| difference(&words, &expected, &ended)));
@@ -114,34 +100,42 @@ pub fn run(program: &Program, times: u32, part: &mut Part) -> io::Result<()> {
 }
 
 fn told(program: &Program, words: &[OsString]) -> io::Result<Ended> {
-    let words = [&[OsString::from("tour")], words].concat();
-    program.run(&words, Input::Once(Vec::new()), Output::Kept)
+    program.run(words, Input::Once(Vec::new()), Output::Kept)
 }
 
-/// Bad words end with status 0, as good ones do. What `help` prints says nothing of the crate: it
-/// is the same whatever stands after it.
+/// What `help` prints says nothing of the crate: it is the same whatever stands after it. `calls`
+/// stands alone, and there are none.
 fn expected(words: &[OsString], help: &[u8]) -> io::Result<Ended> {
     let mut output = Vec::new();
-    if tour::run(&mut output, words)?.is_none() {
-        output = help.to_vec();
-    }
+    let is_understood = match words {
+        [first, ..] if first == "help" => {
+            output.extend_from_slice(help);
+            true
+        }
+        [word] if word == "calls" => true,
+        words => tour::run(&mut output, words)?,
+    };
     Ok(Ended {
-        end: End::Status(0),
+        end: End::Status(if is_understood { 0 } else { 2 }),
         output,
-        errors: Vec::new(),
+        errors: if is_understood {
+            Vec::new()
+        } else {
+            NOT_UNDERSTOOD.to_vec()
+        },
     })
 }
 
 /// No word can hold a NUL.
-fn made(kind: &Kind, random: &mut Random) -> Words {
+fn made(make: &Make, random: &mut Random) -> Words {
     loop {
         let text = random.one_of(&UNDERSTOOD);
-        let before: Words = text
-            .split_terminator(' ')
-            .map(|word| word.as_bytes().to_vec())
-            .collect();
+        let before: Words = text.split_terminator(' ').map(Vec::from).collect();
         let mut words = before.clone();
-        (kind.make)(random, &mut words);
+        match make {
+            Word(make) => change(random, &mut words, make),
+            All(make) => make(random, &mut words),
+        }
         if words != before && !words.iter().any(|word| word.contains(&0)) {
             return words;
         }
@@ -149,11 +143,7 @@ fn made(kind: &Kind, random: &mut Random) -> Words {
 }
 
 /// One word is changed; where there is none, an empty one.
-fn change(
-    random: &mut Random,
-    words: &mut Words,
-    make: impl Fn(&mut Random, &[u8], &[u8]) -> Vec<u8>,
-) {
+fn change(random: &mut Random, words: &mut Words, make: &fn(&mut Random, &[u8], &[u8]) -> Vec<u8>) {
     if words.is_empty() {
         words.push(Vec::new());
     }
@@ -190,10 +180,28 @@ fn word_doubled(random: &mut Random, words: &mut Words) {
 
 fn word_put_in(random: &mut Random, words: &mut Words) {
     let few = [
-        "help", "spans", "frame", "send", "0", "3", "-h", "--help", "--", "*", "1 2", "\n",
+        "help",
+        "calls",
+        "spans",
+        "frame",
+        "send",
+        "0",
+        "3",
+        "-h",
+        "--help",
+        "--",
+        "*",
+        "1 2",
+        "\n",
+        "$(exit 1)",
+        "`exit 1`",
+        "';exit 1;'",
+        "a[0]",
+        "08",
+        "%s",
     ];
     let at = random.below(words.len() as u32 + 1) as usize;
-    words.insert(at, random.one_of(&few).as_bytes().to_vec());
+    words.insert(at, random.one_of(&few).into());
 }
 
 fn words_swapped(random: &mut Random, words: &mut Words) {
@@ -207,7 +215,7 @@ fn many_words(random: &mut Random, words: &mut Words) {
     let count = random.one_of(&[10, 11, 64, 1000, 5000]);
     words.resize(
         words.len() + count,
-        random.one_of(&["0", "1", "", "x"]).as_bytes().to_vec(),
+        random.one_of(&["0", "1", "", "x"]).into(),
     );
 }
 

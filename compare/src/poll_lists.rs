@@ -64,6 +64,12 @@ impl Run {
         if !self.is_open || self.once_in(32) {
             calls.push(self.open());
         }
+        if self.once_in(32) {
+            // document 01 answers from here on: the next section opens the slot again. Until then
+            // no `idle` is asked: replay puts the clock forward, also past a counter's end
+            self.is_open = false;
+            calls.push(self.maker.random.counter_call(SLOTS + self.slot));
+        }
         let edges = match self.maker.random.below(8) {
             0 => self.hostile(),
             _ => self.maker.edges(),
@@ -91,7 +97,7 @@ impl Run {
     fn run(&mut self, edge: &Edge, calls: &mut Vec<Call>) {
         let level = !edge.rising;
         let count = self.affordable(edge.duration);
-        if !self.once_in(32) {
+        if !self.is_open || !self.once_in(32) {
             calls.push(self.poll(level, count));
             return;
         }

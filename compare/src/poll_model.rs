@@ -28,8 +28,8 @@ impl Receiver {
         self.level
     }
 
-    pub fn decoder(&self) -> &Decoder {
-        &self.decoder
+    pub fn decoder(&mut self) -> &mut Decoder {
+        &mut self.decoder
     }
 
     /// The edge that a poll with that level would hand to the decoder.
@@ -44,7 +44,11 @@ impl Receiver {
         })
     }
 
+    /// Refusal 4 leaves the clock too, whatever the level.
     pub fn poll(&mut self, level: bool) -> Report {
+        if self.decoder.is_past_end() {
+            return Report::PastEnd;
+        }
         let edge = self.edge(level);
         self.hold(1);
         match edge {
@@ -57,8 +61,12 @@ impl Receiver {
         }
     }
 
-    /// So many polls with an unchanged level: they report nothing.
-    pub fn hold(&mut self, count: u32) {
+    /// So many polls with an unchanged level.
+    pub fn hold(&mut self, count: u32) -> Report {
+        if count > 0 && self.decoder.is_past_end() {
+            return Report::PastEnd;
+        }
         self.clock = self.clock.wrapping_add(count);
+        Report::Nothing
     }
 }

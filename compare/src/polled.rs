@@ -3,6 +3,7 @@
 use crate::answers::Source;
 use crate::document::Protocol;
 use crate::judge::Judge;
+use crate::model::Decoder;
 use crate::poll_model::Receiver;
 use crate::receivers::{self, Polled};
 use crate::reports::Report;
@@ -26,6 +27,11 @@ impl PolledSlot {
         self.judge.source()
     }
 
+    /// The judge, and the decoder whose bit counter is set.
+    pub fn counted(&mut self) -> (&mut Judge, &mut Decoder) {
+        (&mut self.judge, self.document.decoder())
+    }
+
     /// So many polls, at least one, with that level. Only the first can report.
     pub fn poll(&mut self, level: bool, count: u32) -> Report {
         if let Some(edge) = self.document.edge(level) {
@@ -38,10 +44,9 @@ impl PolledSlot {
     }
 
     /// So many polls with the level that was seen last.
-    pub fn hold(&mut self, count: u32) {
+    pub fn hold(&mut self, count: u32) -> Report {
         let level = self.document.level();
-        self.document.hold(count);
-        let ask = || self.crates.poll(level, count);
-        self.judge.told(Report::Nothing, ask);
+        let exact = self.document.hold(count);
+        self.judge.told(exact, || self.crates.poll(level, count))
     }
 }

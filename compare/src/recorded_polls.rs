@@ -40,6 +40,8 @@ pub fn closed_receiver_answers(scene: &mut Scene) {
         "idle 0 0",
         "poll 7 0 1000000",
         "idle 7 4294967295",
+        "counter 8 0 0",
+        "counter 15 1 4294967295",
         "polled 1 6 1000000",
         "poll 1 1 1",
         "polled 1 1 0",

@@ -1,6 +1,7 @@
 //! The scenes of the recorded test: each begins with what it opens, and is named by the mistake
 //! that it would show.
 
+use crate::recorded_counters::*;
 use crate::recorded_polls::*;
 use crate::recorded_pulses::*;
 use crate::recorded_runs::*;
@@ -84,6 +85,21 @@ scenes! {
     polled_keeps_the_old_clock,
     clock_stops_at_its_end,
     run_over_the_turn_is_lost,
+    counter_past_its_end_is_taken,
+    poll_past_the_end_is_taken,
+    counter_has_other_bits,
+    refusal_4_changes_the_state,
+    refused_poll_moves_the_clock,
+    reset_refuses_past_the_end,
+    counter_takes_another_slot,
+    wrong_counter_is_taken,
+    bounds_of_another_protocol,
+    frame_at_the_bounds_is_lost,
+    send_begins_afresh,
+    frame_is_sent_at_the_slots_rate,
+    deviation_stops_at_32_bits,
+    denon_is_sent_as_nothing,
+    sent_fields_are_exchanged,
 }
 
 fn scene_of(write: fn(&mut Scene)) -> Scene {

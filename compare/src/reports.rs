@@ -14,6 +14,8 @@ pub enum Status {
     Receiving,
     Done,
     Error(Fault),
+    /// Refusal 4: the bit counter is past its end. The crate has none.
+    PastEnd,
 }
 
 /// A command as a decoder tells it.
@@ -51,6 +53,8 @@ pub enum Report {
     Nothing,
     Command(Heard),
     Error(Fault),
+    /// Refusal 4.
+    PastEnd,
 }
 
 /// What one edge shows: the status and the command before event_total resets, and its report.
@@ -61,12 +65,15 @@ pub struct Shown {
     pub report: Report,
 }
 
+const PAST_END: &[u8] = b"refused 4";
+
 pub fn push_status(text: &mut Vec<u8>, status: Status) {
     match status {
         Status::Idle => text.extend_from_slice(b"idle"),
         Status::Receiving => text.extend_from_slice(b"receiving"),
         Status::Done => text.extend_from_slice(b"done"),
         Status::Error(fault) => push_fault(text, fault),
+        Status::PastEnd => text.extend_from_slice(PAST_END),
     }
 }
 
@@ -82,6 +89,7 @@ pub fn push_report(text: &mut Vec<u8>, report: Report) {
         Report::Nothing => push_heard(text, None),
         Report::Command(heard) => push_heard(text, Some(heard)),
         Report::Error(fault) => push_fault(text, fault),
+        Report::PastEnd => text.extend_from_slice(PAST_END),
     }
 }
 

@@ -5,10 +5,12 @@ use crate::answers::Source;
 use crate::calls::{Ask, Edge, SLOTS};
 use crate::decoders::{self, Twins};
 use crate::document::{self, Protocol};
+use crate::frames;
 use crate::judge::Judge;
 use crate::model::Decoder;
 use crate::polled::PolledSlot;
 use crate::reports::{self, Heard, Report, Shown, Status};
+use crate::send;
 use crate::text::push;
 
 /// What the slots hold, and what was reported.
@@ -19,11 +21,12 @@ pub struct Slots {
     reported: Reported,
 }
 
-/// How many commands and errors event_total reported, and how many polls were made.
+/// How many commands, errors and refusals event_total reported, and how many polls were made.
 #[derive(Clone, Copy, Default)]
 pub struct Reported {
     pub commands: u64,
     pub errors: u64,
+    pub refusals: u64,
     pub polls: u64,
 }
 
@@ -65,8 +68,36 @@ impl Slots {
                 slot.reset();
                 text.extend_from_slice(b"reset");
             }
+            Ask::Send(told) => {
+                let kind = match frames::admit(slot.judge.protocol.number(), send::RATE) {
+                    Ok(kind) => kind,
+                    Err(refusal) => return refused(refusal, text),
+                };
+                let sent = send::sent(kind, told, |edge| {
+                    let report = slot.total(&edge).report;
+                    self.reported.add(report);
+                    report
+                });
+                send::push_sent(text, &sent);
+            }
         }
         slot.judge.source()
+    }
+
+    /// Adds the answer to `text`. The polled receivers' slots come after those of decoders.
+    pub fn count(&mut self, slot: usize, is_last: bool, number: u32, text: &mut Vec<u8>) -> Source {
+        let counted = match slot.checked_sub(SLOTS) {
+            None => self.decoders[slot].as_mut().map(Slot::counted),
+            Some(slot) => self.receivers[slot].as_mut().map(PolledSlot::counted),
+        };
+        let (judge, decoder) = match counted {
+            Some(counted) => counted,
+            None => return not_open(text),
+        };
+        judge.counted();
+        decoder.count(is_last, number);
+        text.extend_from_slice(b"counter");
+        judge.source()
     }
 
     /// Adds the answer to `text`.
@@ -96,9 +127,13 @@ impl Slots {
             Some(receiver) => receiver,
             None => return not_open(text),
         };
-        receiver.hold(count);
+        let report = receiver.hold(count);
+        self.reported.add(report);
         self.reported.polls += u64::from(count);
-        text.extend_from_slice(b"idle");
+        match report {
+            Report::Nothing => text.extend_from_slice(b"idle"),
+            report => reports::push_report(text, report),
+        }
         receiver.source()
     }
 
@@ -120,11 +155,13 @@ fn opened(
             text.extend_from_slice(b"opened");
             open(protocol)
         }
-        Err(refusal) => {
-            push(text, "refused ", u64::from(refusal));
-            Source::Refused
-        }
+        Err(refusal) => refused(refusal, text),
     }
+}
+
+fn refused(refusal: u32, text: &mut Vec<u8>) -> Source {
+    push(text, "refused ", u64::from(refusal));
+    Source::Refused
 }
 
 fn not_open(text: &mut Vec<u8>) -> Source {
@@ -138,6 +175,7 @@ impl Reported {
             Report::Nothing => {}
             Report::Command(_) => self.commands += 1,
             Report::Error(_) => self.errors += 1,
+            Report::PastEnd => self.refusals += 1,
         }
     }
 }
@@ -149,6 +187,11 @@ impl Slot {
             document: Decoder::new(protocol, rate),
             crates: decoders::twins(protocol, rate),
         }
+    }
+
+    /// The judge, and the decoder whose bit counter is set.
+    fn counted(&mut self) -> (&mut Judge, &mut Decoder) {
+        (&mut self.judge, &mut self.document)
     }
 
     fn event(&mut self, edge: &Edge) -> Status {

@@ -2,6 +2,10 @@
 use Rattle.determined.specs.Determined.{Fixed, asks-nothing, both, one, alike}
 use Rattle.answers.proofs.text as text
 use Rattle.answers.proofs.with as with
+use Rattle.answers.proofs.with_two as with-two
+use Rattle.answers.proofs.of_refused as of-refused
+use Rattle.answers.proofs.of_edge as of-edge
+use Rattle.answers.proofs.of_bounds as of-bounds
 use Rattle.answers.proofs.of_status as of-status
 use Rattle.answers.proofs.of_report as of-report
 use Rattle.answers.proofs.of_answer as of-answer
@@ -9,7 +13,6 @@ use Rattle.answers.proofs.of_found as of-found
 use Rattle.answers.proofs.of_encoded as of-encoded
 use Rattle.answers.proofs.of_unwritten as of-unwritten
 use Rattle.answers.proofs.is_taken as is-taken
-use Rattle.answers.proofs.is_nothing as is-nothing
 use Rattle.answers.proofs.not_open as not-open
 use Rattle.answers.proofs.not_understood as not-understood
 
@@ -46,5 +49,14 @@ not-open-fixed M 𝓤 H 𝓜 𝓖 𝓡 = (not-open.Met.met 𝓤 H 𝓜 𝓖 𝓡
 not-understood-fixed : Fixed not-understood.ended (λ M. not-understood.clauses) not-understood.Symbol.routine
 not-understood-fixed M 𝓤 H 𝓜 𝓖 𝓡 = (not-understood.Met.met 𝓤 H 𝓜 𝓖 𝓡, λ κs a. asks-nothing 𝓤, λ κs a g h r s v w. both one one alike)
 
-is-nothing-fixed : Fixed is-nothing.ended (λ M. is-nothing.clauses) is-nothing.Symbol.routine
-is-nothing-fixed M 𝓤 H 𝓜 𝓖 𝓡 = (is-nothing.Met.met 𝓤 H 𝓜 𝓖 𝓡, λ κs a. asks-nothing 𝓤, λ κs a g h r s v w. both one one alike)
+with-two-fixed : Fixed with-two.ended (λ M. with-two.clauses) with-two.Symbol.routine
+with-two-fixed M 𝓤 H 𝓜 𝓖 𝓡 = (with-two.Met.met 𝓤 H 𝓜 𝓖 𝓡, λ κs a. asks-nothing 𝓤, λ κs a g h r s v w. both one one alike)
+
+of-refused-fixed : Fixed of-refused.ended (λ M. of-refused.clauses) of-refused.Symbol.routine
+of-refused-fixed M 𝓤 H 𝓜 𝓖 𝓡 = (of-refused.Met.met 𝓤 H 𝓜 𝓖 𝓡, λ κs a. asks-nothing 𝓤, λ κs a g h r s v w. both one one alike)
+
+of-edge-fixed : Fixed of-edge.ended (λ M. of-edge.clauses) of-edge.Symbol.routine
+of-edge-fixed M 𝓤 H 𝓜 𝓖 𝓡 = (of-edge.Met.met 𝓤 H 𝓜 𝓖 𝓡, λ κs a. asks-nothing 𝓤, λ κs a g h r s v w. both one one alike)
+
+of-bounds-fixed : Fixed of-bounds.ended (λ M. of-bounds.clauses) of-bounds.Symbol.routine
+of-bounds-fixed M 𝓤 H 𝓜 𝓖 𝓡 = (of-bounds.Met.met 𝓤 H 𝓜 𝓖 𝓡, λ κs a. asks-nothing 𝓤, λ κs a g h r s v w. both one one alike)

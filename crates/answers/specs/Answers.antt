@@ -1,4 +1,4 @@
--- What a call answers, as README's "The call language" lists it: a phrase, which is a text and the numbers after it.
+-- What a call answers, as docs/CALLS.md lists it: a phrase, which is a text and the numbers after it.
 use Prim.Native.Nat.{ℕ, _+_, _*_}
 use Prim.Native.Char.{Char, code}
 use mathlib.Core.Bool.{Bool, true, false, cond}
@@ -10,7 +10,6 @@ use Rattle.reports.specs.Reports.{statusNumbers, reportNumbers, numbersIn}
 use Rattle.reports.specs.declared.ReportNumbers.{ReportNumbers}
 use Rattle.reports.specs.declared.Status.{Status}
 use Rattle.reports.specs.declared.Report.{Report}
-use Rattle.reports.specs.declared.Report.the-variants as report
 use Rattle.spans.specs.declared.Answer.{Answer}
 use Rattle.spans.specs.declared.Answer.the-variants as answer
 use Rattle.spans.specs.declared.Found.{Found}
@@ -32,6 +31,10 @@ textOf head tail = record { head = head; tail = tail; numbers = 0 ∷ 0 ∷ 0 �
 -- a text and a number
 abbrev pub withOf : ℕ → ℕ → ℕ → Phrase
 withOf head tail number = record { head = head; tail = tail; numbers = number ∷ 0 ∷ 0 ∷ 0 ∷ []; count = 1 }
+
+-- a text and two numbers
+abbrev pub withTwo : ℕ → ℕ → ℕ → ℕ → Phrase
+withTwo head tail first second = record { head = head; tail = tail; numbers = first ∷ second ∷ 0 ∷ 0 ∷ []; count = 2 }
 
 abbrev pub refusedPhrase : ℕ → Phrase
 refusedPhrase number = withOf (word ("r" ∷ "e" ∷ "f" ∷ "u" ∷ "s" ∷ "e" ∷ "d" ∷ [])) 0 number
@@ -72,12 +75,6 @@ reportBy n =
 unfoldable pub reportPhrase : Report → Phrase
 reportPhrase report = reportBy (numbersIn (reportNumbers report))
 
-abbrev pub isNothing : Report → Bool
-isNothing report.Nothing = true
-isNothing (report.Command command) = false
-isNothing (report.Error fault) = false
-isNothing (report.Refused number) = false
-
 abbrev pub isTaken : Answer → Bool
 isTaken answer.Taken = true
 isTaken (answer.Refused number) = false
@@ -102,6 +99,14 @@ encodedPhrase (encoded.Short needed) =
 -- after what encoding answers: the places of the lent buffer that are unwritten
 abbrev pub unwrittenPhrase : ℕ → Phrase
 unwrittenPhrase count = withOf (word (" " ∷ "k" ∷ "e" ∷ "p" ∷ "t" ∷ [])) 0 count
+
+-- of a frame that was sent: the number of the next edge after the first that reported anything, and how many others did
+abbrev pub edgePhrase : ℕ → ℕ → Phrase
+edgePhrase edge others = withTwo (word ("e" ∷ "d" ∷ "g" ∷ "e" ∷ [])) 0 edge others
+
+-- the least silence and the largest deviation with which a frame is heard
+abbrev pub boundsPhrase : ℕ → ℕ → Phrase
+boundsPhrase silence deviation = withTwo (word ("b" ∷ "o" ∷ "u" ∷ "n" ∷ "d" ∷ "s" ∷ [])) 0 silence deviation
 
 abbrev pub notOpen : Phrase
 notOpen = textOf (word ("n" ∷ "o" ∷ "t" ∷ " " ∷ "o" ∷ "p" ∷ "e" ∷ "n" ∷ [])) 0

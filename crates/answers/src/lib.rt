@@ -8,7 +8,7 @@ use reports::status_numbers;
 use spans::Answer;
 use spans::Found;
 ghost use mathlib.Core.Path.{_≡_};
-ghost use Rattle.answers.specs.Answers.{textOf, withOf, refusedPhrase, faultPhrase, nameOf, statusBy, statusPhrase, reportBy, reportPhrase, answerPhrase, foundPhrase, encodedPhrase, unwrittenPhrase, notOpen, notUnderstood, isTaken, isNothing};
+ghost use Rattle.answers.specs.Answers.{textOf, withOf, withTwo, refusedPhrase, faultPhrase, nameOf, statusBy, statusPhrase, reportBy, reportPhrase, answerPhrase, foundPhrase, encodedPhrase, unwrittenPhrase, edgePhrase, boundsPhrase, notOpen, notUnderstood, isTaken};
 
 // The characters are digits of base 256: the first eight, and the rest.
 pub struct Phrase {
@@ -18,7 +18,64 @@ pub struct Phrase {
     pub count: usize,
 }
 
+// The texts, by their names. A longer one has its first eight characters, and the rest in the constant after it.
+pub const IDLE: u64 = 0x69646C65;
+
+pub const RESET: u64 = 0x7265736574;
+
+pub const COUNTER: u64 = 0x636F756E746572;
+
+const RECEIVING: u64 = 0x726563656976696E;
+
+const RECEIVING_REST: u64 = 0x67;
+
+const DONE: u64 = 0x646F6E65;
+
+const ERROR_ADDRESS: u64 = 0x6572726F72206164;
+
+const ERROR_ADDRESS_REST: u64 = 0x6472657373;
+
+const ERROR_DATA: u64 = 0x6572726F72206461;
+
+const ERROR_DATA_REST: u64 = 0x7461;
+
+const NOTHING: u64 = 0x6E6F7468696E67;
+
+const NEC: u64 = 0x6E6563;
+
+const RC5: u64 = 0x726335;
+
+const RC6: u64 = 0x726336;
+
+const SBP: u64 = 0x736270;
+
+const DENON: u64 = 0x64656E6F6E;
+
 const REFUSED: u64 = 0x72656675736564;
+
+const REFUSED_3_NEEDS: u64 = 0x7265667573656420;
+
+const REFUSED_3_NEEDS_REST: u64 = 0x33206E65656473;
+
+const OPENED: u64 = 0x6F70656E6564;
+
+const PLACE: u64 = 0x706C616365;
+
+const NONE: u64 = 0x6E6F6E65;
+
+const WROTE: u64 = 0x77726F7465;
+
+const KEPT: u64 = 0x206B657074;
+
+const EDGE: u64 = 0x65646765;
+
+const BOUNDS: u64 = 0x626F756E6473;
+
+const NOT_OPEN: u64 = 0x6E6F74206F70656E;
+
+const NOT_UNDERSTOOD: u64 = 0x6E6F7420756E6465;
+
+const NOT_UNDERSTOOD_REST: u64 = 0x7273746F6F64;
 
 pub fn text(head: u64, tail: u64) -> Phrase
     ensures { λ r. ⌜ r ≡ textOf head tail ⌝ }
@@ -43,32 +100,44 @@ pub fn with(head: u64, tail: u64, number: u64) -> Phrase
     }
 }
 
-fn of_refused(number: u32) -> Phrase
+// A text and two numbers.
+pub fn with_two(head: u64, tail: u64, first: u64, second: u64) -> Phrase
+    ensures { λ r. ⌜ r ≡ withTwo head tail first second ⌝ }
+{
+    Phrase {
+        head,
+        tail,
+        numbers: [first, second, 0, 0],
+        count: 2,
+    }
+}
+
+pub fn of_refused(number: u32) -> Phrase
     ensures { λ r. ⌜ r ≡ refusedPhrase number ⌝ }
 {
     with(REFUSED, 0, number as u64)
 }
 
-// Error address, error data.
+// Of a fault by its number.
 fn of_fault(number: u32) -> Phrase
     ensures { λ r. ⌜ r ≡ faultPhrase number ⌝ }
 {
     if number == 1 {
-        return text(0x6572726F72206164, 0x6472657373);
+        return text(ERROR_ADDRESS, ERROR_ADDRESS_REST);
     }
-    text(0x6572726F72206461, 0x7461)
+    text(ERROR_DATA, ERROR_DATA_REST)
 }
 
-// Nec, rc5, rc6, sbp, denon.
+// A protocol's name by its number.
 fn name_of(protocol: u32) -> u64
     ensures { λ r. ⌜ r ≡ nameOf protocol ⌝ }
 {
     match protocol {
-        1 => 0x6E6563,
-        2 => 0x726335,
-        3 => 0x726336,
-        4 => 0x736270,
-        _ => 0x64656E6F6E,
+        1 => NEC,
+        2 => RC5,
+        3 => RC6,
+        4 => SBP,
+        _ => DENON,
     }
 }
 
@@ -78,10 +147,9 @@ fn status_by(n: ReportNumbers) -> Phrase
 {
     let kind = n.kind;
     match kind {
-        // idle, receiving, done
-        0 => text(0x69646C65, 0),
-        1 => text(0x726563656976696E, 0x67),
-        2 => text(0x646F6E65, 0),
+        0 => text(IDLE, 0),
+        1 => text(RECEIVING, RECEIVING_REST),
+        2 => text(DONE, 0),
         3 => of_fault(n.number),
         _ => of_refused(n.number),
     }
@@ -99,8 +167,7 @@ fn report_by(n: ReportNumbers) -> Phrase
 {
     let kind = n.kind;
     match kind {
-        // nothing
-        0 => text(0x6E6F7468696E67, 0),
+        0 => text(NOTHING, 0),
         // the protocol's name, and the values
         1 => {
             let values = n.values;
@@ -126,8 +193,7 @@ pub fn of_answer(answer: Answer) -> Phrase
     ensures { λ r. ⌜ r ≡ answerPhrase answer ⌝ }
 {
     match answer {
-        // opened
-        Answer::Taken => text(0x6F70656E6564, 0),
+        Answer::Taken => text(OPENED, 0),
         Answer::Refused(number) => of_refused(number),
     }
 }
@@ -136,9 +202,8 @@ pub fn of_found(found: Found) -> Phrase
     ensures { λ r. ⌜ r ≡ foundPhrase found ⌝ }
 {
     match found {
-        // place, none
-        Found::At(place) => with(0x706C616365, 0, place as u64),
-        Found::None => text(0x6E6F6E65, 0),
+        Found::At(place) => with(PLACE, 0, place as u64),
+        Found::None => text(NONE, 0),
     }
 }
 
@@ -146,10 +211,9 @@ pub fn of_encoded(encoded: Encoded) -> Phrase
     ensures { λ r. ⌜ r ≡ encodedPhrase encoded ⌝ }
 {
     match encoded {
-        // wrote, refused 3 needs
-        Encoded::Wrote(count) => with(0x77726F7465, 0, count as u64),
+        Encoded::Wrote(count) => with(WROTE, 0, count as u64),
         Encoded::Refused(number) => of_refused(number),
-        Encoded::Short(needed) => with(0x7265667573656420, 0x33206E65656473, needed as u64),
+        Encoded::Short(needed) => with(REFUSED_3_NEEDS, REFUSED_3_NEEDS_REST, needed as u64),
     }
 }
 
@@ -165,29 +229,31 @@ pub fn is_taken(answer: Answer) -> bool
 pub fn not_open() -> Phrase
     ensures { λ r. ⌜ r ≡ notOpen ⌝ }
 {
-    text(0x6E6F74206F70656E, 0)
+    text(NOT_OPEN, 0)
 }
 
 // The places of the lent buffer that are unwritten, after the word kept.
 pub fn of_unwritten(count: usize) -> Phrase
     ensures { λ r. ⌜ r ≡ unwrittenPhrase count ⌝ }
 {
-    with(0x206B657074, 0, count as u64)
+    with(KEPT, 0, count as u64)
+}
+
+// The number of an edge, and how many others reported something.
+pub fn of_edge(edge: u32, others: u32) -> Phrase
+    ensures { λ r. ⌜ r ≡ edgePhrase edge others ⌝ }
+{
+    with_two(EDGE, 0, edge as u64, others as u64)
+}
+
+pub fn of_bounds(silence: u32, deviation: u32) -> Phrase
+    ensures { λ r. ⌜ r ≡ boundsPhrase silence deviation ⌝ }
+{
+    with_two(BOUNDS, 0, silence as u64, deviation as u64)
 }
 
 pub fn not_understood() -> Phrase
     ensures { λ r. ⌜ r ≡ notUnderstood ⌝ }
 {
-    text(0x6E6F7420756E6465, 0x7273746F6F64)
-}
-
-pub fn is_nothing(report: Report) -> bool
-    ensures { λ r. ⌜ r ≡ isNothing report ⌝ }
-{
-    match report {
-        Report::Nothing => true,
-        Report::Command(_) => false,
-        Report::Error(_) => false,
-        Report::Refused(_) => false,
-    }
+    text(NOT_UNDERSTOOD, NOT_UNDERSTOOD_REST)
 }

@@ -3,10 +3,9 @@ use Prim.Native.Nat.{ℕ}
 use mathlib.Core.Bool.{cond}
 use mathlib.Core.List.{List, _++_}
 use Rattle.answer_text.specs.AnswerText.{phraseText, partText}
-use Rattle.calls.specs.declared.on_slots.CallAnswer.{CallAnswer}
+use Rattle.slots.specs.declared.Parts.{Parts}
 
--- an edge on an open slot answers its status and its command first
-unfoldable pub answerText : CallAnswer → List ℕ
-answerText answer =
-    cond (answer .«is_edge») (partText (answer .head .status) ++ partText (answer .head .command) ++ phraseText (answer .phrase))
-    (phraseText (answer .phrase))
+-- the head comes first where there is one
+unfoldable pub answerText : Parts → List ℕ
+answerText parts =
+    cond (parts .«has_head») (partText (parts .head .first) ++ partText (parts .head .second) ++ phraseText (parts .last)) (phraseText (parts .last))

@@ -1,4 +1,4 @@
--- The calls of README's "The call language", in its order: the name and the numbers of each, and which of them a line is.
+-- The calls of docs/CALLS.md, in its order: the name and the numbers of each, and which of them a line is.
 use Prim.Native.Nat.{ℕ, _+_, _-_, _^_}
 use Prim.Native.Char.{Char}
 use mathlib.Core.Bool.{Bool, true, cond, _&&_}
@@ -18,14 +18,18 @@ upTo most = (0, most)
 abbrev pub slot : Range
 slot = upTo 7
 
--- a level or a toggle
+-- of a decoder, or of a polled receiver from 8 on
+abbrev pub eitherSlot : Range
+eitherSlot = upTo 15
+
+-- a level, a toggle, or which of two counters
 abbrev pub flag : Range
 flag = upTo 1
 
 abbrev pub byte : Range
 byte = upTo 255
 
--- a protocol, a rate, a duration or a count
+-- a protocol, a rate, a duration, a count or a bit's number
 abbrev pub word32 : Range
 word32 = upTo (2 ^ 32 - 1)
 
@@ -60,6 +64,9 @@ calls =
     ∷ call ("p" ∷ "o" ∷ "l" ∷ "l" ∷ "e" ∷ "d" ∷ []) (slot ∷ word32 ∷ word32 ∷ [])
     ∷ call ("p" ∷ "o" ∷ "l" ∷ "l" ∷ []) (slot ∷ flag ∷ polls ∷ [])
     ∷ call ("i" ∷ "d" ∷ "l" ∷ "e" ∷ []) (slot ∷ word32 ∷ [])
+    ∷ call ("c" ∷ "o" ∷ "u" ∷ "n" ∷ "t" ∷ "e" ∷ "r" ∷ []) (eitherSlot ∷ flag ∷ word32 ∷ [])
+    ∷ call ("b" ∷ "o" ∷ "u" ∷ "n" ∷ "d" ∷ "s" ∷ []) (word32 ∷ [])
+    ∷ call ("s" ∷ "e" ∷ "n" ∷ "d" ∷ []) (slot ∷ byte ∷ byte ∷ byte ∷ flag ∷ word32 ∷ word32 ∷ [])
     ∷ []
 
 abbrev pub isIn : Range → ℕ → Bool

@@ -1,6 +1,6 @@
 pub mod Calls
 pub mod CallsSteps
-pub mod OnSpans
+pub mod Phrases
 pub mod OnSlots
 pub mod OnFrames
 pub mod CallText

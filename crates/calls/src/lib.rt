@@ -1,8 +1,8 @@
-// The calls of README's "The call language", by their numbers from 0, and which of them a line is.
+// The calls of docs/CALLS.md, by their numbers from 0, and which of them a line is.
 pub mod call_text;
 pub mod on_frames;
 pub mod on_slots;
-mod on_spans;
+mod phrases;
 
 use words::Line;
 ghost use mathlib.Core.Path.{_≡_};
@@ -35,34 +35,73 @@ pub const POLL: usize = 10;
 
 pub const IDLE: usize = 11;
 
-// No call.
-pub const NONE: usize = 12;
+pub const COUNTER: usize = 12;
 
-// The names, their letters as digits of base 256: spans, lookup, encode, open, event, total, edge, command, reset, polled, poll, idle.
-const NAMES: [u64; 12] = [
-    0x7370616E73,
-    0x6C6F6F6B7570,
-    0x656E636F6465,
-    0x6F70656E,
-    0x6576656E74,
-    0x746F74616C,
-    0x65646765,
-    0x636F6D6D616E64,
-    0x7265736574,
-    0x706F6C6C6564,
-    0x706F6C6C,
-    0x69646C65,
+pub const BOUNDS: usize = 13;
+
+pub const SEND: usize = 14;
+
+// No call.
+pub const NONE: usize = 15;
+
+// The names, their letters as digits of base 256.
+const SPANS_NAME: u64 = 0x7370616E73;
+
+const LOOKUP_NAME: u64 = 0x6C6F6F6B7570;
+
+const ENCODE_NAME: u64 = 0x656E636F6465;
+
+const OPEN_NAME: u64 = 0x6F70656E;
+
+const EVENT_NAME: u64 = 0x6576656E74;
+
+const TOTAL_NAME: u64 = 0x746F74616C;
+
+const EDGE_NAME: u64 = 0x65646765;
+
+const COMMAND_NAME: u64 = 0x636F6D6D616E64;
+
+const RESET_NAME: u64 = 0x7265736574;
+
+const POLLED_NAME: u64 = 0x706F6C6C6564;
+
+const POLL_NAME: u64 = 0x706F6C6C;
+
+const IDLE_NAME: u64 = 0x69646C65;
+
+const COUNTER_NAME: u64 = 0x636F756E746572;
+
+const BOUNDS_NAME: u64 = 0x626F756E6473;
+
+const SEND_NAME: u64 = 0x73656E64;
+
+const NAMES: [u64; 15] = [
+    SPANS_NAME,
+    LOOKUP_NAME,
+    ENCODE_NAME,
+    OPEN_NAME,
+    EVENT_NAME,
+    TOTAL_NAME,
+    EDGE_NAME,
+    COMMAND_NAME,
+    RESET_NAME,
+    POLLED_NAME,
+    POLL_NAME,
+    IDLE_NAME,
+    COUNTER_NAME,
+    BOUNDS_NAME,
+    SEND_NAME,
 ];
 
 // How many numbers follow the name.
-const COUNTS: [usize; 12] = [2, 3, 7, 3, 3, 3, 3, 1, 1, 3, 3, 2];
+const COUNTS: [usize; 15] = [2, 3, 7, 3, 3, 3, 3, 1, 1, 3, 3, 2, 3, 1, 7];
 
 const LAST: u64 = 0xFFFFFFFF;
 
 const ANY: u64 = 0xFFFFFFFFFFFFFFFF;
 
 // The largest that each number may be; whatever stands after the numbers is not asked.
-const MOST: [[u64; 7]; 12] = [
+const MOST: [[u64; 7]; 15] = [
     [LAST, LAST, ANY, ANY, ANY, ANY, ANY],
     [LAST, LAST, ANY, ANY, ANY, ANY, ANY],
     [LAST, LAST, 255, 255, 255, 1, 100],
@@ -75,24 +114,27 @@ const MOST: [[u64; 7]; 12] = [
     [7, LAST, LAST, ANY, ANY, ANY, ANY],
     [7, 1, 1000000, ANY, ANY, ANY, ANY],
     [7, LAST, ANY, ANY, ANY, ANY, ANY],
+    [15, 1, LAST, ANY, ANY, ANY, ANY],
+    [LAST, ANY, ANY, ANY, ANY, ANY, ANY],
+    [7, 255, 255, 255, 1, LAST, LAST],
 ];
 
 fn name_at(call: usize) -> u64
-    requires { ⌜ call < 12 ⌝ }
+    requires { ⌜ call < 15 ⌝ }
     ensures { λ r. ⌜ r ≡ callAt call .name ⌝ }
 {
     NAMES[call]
 }
 
 fn count_at(call: usize) -> usize
-    requires { ⌜ call < 12 ⌝ }
+    requires { ⌜ call < 15 ⌝ }
     ensures { λ r. ⌜ (r ≡ length (callAt call .numbers)) × (r ≤ 7) ⌝ }
 {
     COUNTS[call]
 }
 
 fn most_at(call: usize, place: usize) -> u64
-    requires { ⌜ (call < 12) × (place < 7) ⌝ }
+    requires { ⌜ (call < 15) × (place < 7) ⌝ }
     ensures { λ r. ⌜ r ≡ rangeAt call place .1 ⌝ }
 {
     MOST[call][place]
@@ -102,19 +144,19 @@ fn most_at(call: usize, place: usize) -> u64
 fn is_polls(call: usize, place: usize) -> bool
     ensures { λ r. ⌜ r ≡ (eqb call 10 && eqb place 2) ⌝ }
 {
-    call == POLL && place == 2
+    (call == POLL) & (place == 2)
 }
 
 // A poll is of one level at least; every other number may be 0.
 fn least_at(call: usize, place: usize) -> u64
-    requires { ⌜ (call < 12) × (place < 7) ⌝ }
+    requires { ⌜ (call < 15) × (place < 7) ⌝ }
     ensures { λ r. ⌜ r ≡ rangeAt call place .0 ⌝ }
 {
     if is_polls(call, place) { 1 } else { 0 }
 }
 
 fn is_in(call: usize, place: usize, x: u64) -> bool
-    requires { ⌜ (call < 12) × (place < 7) ⌝ }
+    requires { ⌜ (call < 15) × (place < 7) ⌝ }
     ensures { λ r. ⌜ r ≡ isIn (rangeAt call place) x ⌝ }
 {
     least_at(call, place) <= x && x <= most_at(call, place)
@@ -122,7 +164,7 @@ fn is_in(call: usize, place: usize, x: u64) -> bool
 
 // The numbers of a call are in their ranges.
 fn are_in(call: usize, n: &[u64; 8]) -> bool
-    requires { ⌜ call < 12 ⌝ }
+    requires { ⌜ call < 15 ⌝ }
     ensures { λ r. ⌜ r ≡ areFrom 0 (callAt call .numbers) (now (n .entry)) ⌝ }
 {
     let count = count_at(call);
@@ -138,7 +180,7 @@ fn are_in(call: usize, n: &[u64; 8]) -> bool
 
 // The line is a name and so many numbers.
 fn is_named(line: Line, call: usize) -> bool
-    requires { ⌜ call < 12 ⌝ }
+    requires { ⌜ call < 15 ⌝ }
     ensures { λ r. ⌜ r ≡ isNamed line (callAt call) ⌝ }
 {
     if line.whole {
@@ -151,7 +193,7 @@ fn is_named(line: Line, call: usize) -> bool
 }
 
 fn is_call(line: Line, n: &[u64; 8], call: usize) -> bool
-    requires { ⌜ call < 12 ⌝ }
+    requires { ⌜ call < 15 ⌝ }
     ensures { λ r. ⌜ r ≡ isCall line (now (n .entry)) (callAt call) ⌝ }
 {
     is_named(line, call) && are_in(call, n)
@@ -162,7 +204,7 @@ pub fn call_of(line: Line, n: &[u64; 8]) -> usize
     ensures { λ r. ⌜ r ≡ callOf line (now (n .entry)) ⌝ }
 {
     let mut call: usize = 0;
-    while call < 12 {
+    while call < 15 {
         if is_call(line, n, call) {
             return call;
         }

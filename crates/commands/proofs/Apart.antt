@@ -1,4 +1,4 @@
--- A command's protocol number and values tell it from every other command: it is read back from them, a flag by its two cases. Assumes nothing.
+-- A command can be read back from its protocol number and values, so no two commands share them. Assumes nothing.
 use mathlib.Core.Path.{_≡_, refl, sym, ap, ap₂, _∙_}
 use mathlib.Core.Bool.{Bool, true, false, cond}
 use mathlib.Core.List.{List}

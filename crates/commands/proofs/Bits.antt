@@ -1,5 +1,5 @@
--- Laws of bits at any place and width: a field of what `or` joins, a field under a mask, bytes joined, complements.
--- The operations work on each run of digits apart (lib.Bits), so a field passes through them. Assumes nothing.
+-- Laws of bits at any place and width: a field of two numbers joined by `or`, a field under a mask, bytes joined, complements.
+-- The operations work on each group of digits by itself (lib.Bits), so a field passes through them. Assumes nothing.
 use mathlib.Core.Path.{_≡_, refl, sym, ap, ap₂, _∙_}
 use mathlib.Core.Bool.{Bool, true, false, not}
 use Prim.Native.Nat.{ℕ, zero, suc, _+_, _-_, _*_, _/_, _%_, _^_, _<_, min}

@@ -1,5 +1,5 @@
--- Unpack after pack is the command; of an RC5 command whose fields are too large for their places, what it reads back as.
--- Each field of the packed bits is read off by arithmetic; RC5's pass through the `or` that joins them. Assumes nothing.
+-- Unpack after pack is the command. An RC5 command whose fields are too large reads back as another; here is which.
+-- Each field of the packed bits is read off by arithmetic. RC5's fields pass through the `or` that joins them. Assumes nothing.
 use mathlib.Core.Path.{_≡_, refl, ap, ap₂, _∙_}
 use mathlib.Core.Bool.{Bool, true, false, _||_}
 use Prim.Native.Nat.{ℕ, zero, suc, _+_, _-_, _*_, _/_, _%_, _^_, _<_}

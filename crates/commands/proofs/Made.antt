@@ -1,4 +1,4 @@
--- A command is made of just the numbers that are encoded, and is one of that protocol. By cases on the number. Assumes nothing.
+-- A command is made of the numbers that are encoded and of no others, and has that protocol. By cases on the number. Assumes nothing.
 use mathlib.Core.Path.{_≡_, refl, subst⁻¹}
 use mathlib.Core.Bool.{Bool, false}
 use Prim.Native.Nat.{ℕ, zero, suc}

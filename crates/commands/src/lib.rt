@@ -1,4 +1,4 @@
-// The five commands, the enum of them, each as numbers, and a command from its plain fields.
+// The five commands: packing and unpacking, a command as plain numbers, and a command from plain fields.
 ghost use mathlib.Core.Path.{_≡_};
 ghost use Rattle.commands.specs.Command.{protocolOf, valuesOf, valuesIn, commandOf};
 

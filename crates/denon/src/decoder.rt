@@ -6,12 +6,23 @@ use reports::Status;
 use spans::Answer;
 use spans::Spans;
 ghost use mathlib.Core.Path.{_≡_};
-ghost use Prim.Native.Nat.{_≤_};
 ghost use Rattle.refusals.specs.Refusals as refusal;
 ghost use Rattle.spans.specs.Spans.{ends, spansOf};
 ghost use Rattle.reports.specs.Edges.{edge};
-ghost use Rattle.reports.specs.Machine.{refused, eventAfter, answered, event, ruled, total};
-ghost use Rattle.denon.specs.Decoder.{pastEnd, fromIdle, fromLast, fromBit, nextOf, withSaved, machine, eventIn, totalIn, decoderOf, madeOf, eventOf, totalOf};
+ghost use Rattle.reports.specs.Machine.{refused, eventAfter, answered, event, total};
+ghost use Rattle.denon.specs.Decoder.{pastEnd, memoryOf, nextOf, withSaved, machine, eventIn, totalIn, decoderOf, madeOf, eventOf, totalOf};
+ghost use Rattle.denon.specs.declared.decoder.DenonState.the-variants.{Idle, Data, Done};
+
+// Places of the spans, NONE for none of these; and the number of the last bit.
+const SYNC: u32 = 0;
+
+const ZERO: u32 = 1;
+
+const ONE: u32 = 2;
+
+const NONE: u32 = 8;
+
+const LAST: u8 = 47;
 
 pub enum DenonState {
     Idle,
@@ -64,153 +75,80 @@ pub fn past_end(m: DenonMemory) -> bool
     let state = m.state;
     match state {
         DenonState::Idle => false,
-        DenonState::Data(n) => 47 < n,
+        DenonState::Data(n) => LAST < n,
         DenonState::Done => false,
     }
 }
 
-// A pulse gives a memory made anew in each arm, with the saved number cleared: made so, it stays in registers.
-fn from_idle(place: u32, bits: u64) -> DenonMemory
-    ensures { λ r. ⌜ r ≡ fromIdle place bits ⌝ }
+// An answer for each state: its status, and the memory made anew, so that it stays in registers.
+fn idle(bits: u64, saved: u32) -> DenonEventIn
+    ensures { λ r. ⌜ r ≡ eventIn (eventAfter machine (memoryOf Idle bits saved)) ⌝ }
 {
-    match place {
-        // sync
-        0 => DenonMemory {
-            state: DenonState::Data(0),
-            bits, // kept: only a reset clears them
-            saved: 0,
-        },
-        _ => DenonMemory {
-            state: DenonState::Idle,
-            bits,
-            saved: 0,
-        },
-    }
+    let status = Status::Idle;
+    let memory = DenonMemory {
+        state: DenonState::Idle,
+        bits,
+        saved,
+    };
+    DenonEventIn { status, memory }
 }
 
-// Bit 47 ends the frame.
-fn from_last(place: u32, bits: u64) -> DenonMemory
-    ensures { λ r. ⌜ r ≡ fromLast place bits ⌝ }
+fn receiving(n: u8, bits: u64, saved: u32) -> DenonEventIn
+    ensures { λ r. ⌜ r ≡ eventIn (eventAfter machine (memoryOf (Data n) bits saved)) ⌝ }
 {
-    match place {
-        // zero
-        1 => DenonMemory {
-            state: DenonState::Done,
-            bits,
-            saved: 0,
-        },
-        // one
-        2 => DenonMemory {
-            state: DenonState::Done,
-            bits, // bit 47 is never stored
-            saved: 0,
-        },
-        _ => DenonMemory {
-            state: DenonState::Idle,
-            bits,
-            saved: 0,
-        },
-    }
+    let status = Status::Receiving;
+    let memory = DenonMemory {
+        state: DenonState::Data(n),
+        bits,
+        saved,
+    };
+    DenonEventIn { status, memory }
 }
 
-fn from_bit(n: u8, place: u32, bits: u64) -> DenonMemory
-    requires { ⌜ n ≤ 46 ⌝ }
-    ensures { λ r. ⌜ r ≡ fromBit n place bits ⌝ }
+fn done(bits: u64, saved: u32) -> DenonEventIn
+    ensures { λ r. ⌜ r ≡ eventIn (eventAfter machine (memoryOf Done bits saved)) ⌝ }
 {
-    match place {
-        // zero
-        1 => DenonMemory {
-            state: DenonState::Data(n + 1),
-            bits,
-            saved: 0,
-        },
-        // one
-        2 => DenonMemory {
-            state: DenonState::Data(n + 1),
-            bits: bits | (1 << n),
-            saved: 0,
-        },
-        _ => DenonMemory {
-            state: DenonState::Idle,
-            bits, // those gathered so far
-            saved: 0,
-        },
-    }
+    let status = Status::Done;
+    let memory = DenonMemory {
+        state: DenonState::Done,
+        bits,
+        saved,
+    };
+    DenonEventIn { status, memory }
 }
 
-// The same state and bits with another saved number.
-fn with_saved(m: DenonMemory, saved: u32) -> DenonMemory
-    ensures { λ r. ⌜ r ≡ withSaved m saved ⌝ }
+fn refused(memory: DenonMemory) -> DenonEventIn
+    ensures { λ r. ⌜ r ≡ eventIn (refused refusal.pastEnd memory) ⌝ }
 {
-    let state = m.state;
-    let bits = m.bits;
-    match state {
-        DenonState::Idle => DenonMemory {
-            state: DenonState::Idle,
-            bits,
-            saved,
-        },
-        DenonState::Data(n) => DenonMemory {
-            state: DenonState::Data(n),
-            bits,
-            saved,
-        },
-        DenonState::Done => DenonMemory {
-            state: DenonState::Done,
-            bits,
-            saved,
-        },
-    }
+    let status = Status::Refused(refusals::PAST_END);
+    DenonEventIn { status, memory }
 }
 
-// The status, and the memory made anew beside it: handed on whole it would be moved as bytes.
-fn event_after(m: DenonMemory) -> DenonEventIn
-    ensures { λ r. ⌜ r ≡ eventIn (eventAfter machine m) ⌝ }
-{
-    let state = m.state;
-    match state {
-        DenonState::Idle => DenonEventIn {
-            status: Status::Idle,
-            memory: with_saved(m, m.saved),
-        },
-        DenonState::Data(_) => DenonEventIn {
-            status: Status::Receiving,
-            memory: with_saved(m, m.saved),
-        },
-        DenonState::Done => DenonEventIn {
-            status: Status::Done,
-            memory: with_saved(m, m.saved),
-        },
-    }
-}
-
-fn refused(m: DenonMemory) -> DenonEventIn
-    ensures { λ r. ⌜ r ≡ eventIn (refused refusal.pastEnd m) ⌝ }
-{
-    DenonEventIn {
-        status: Status::Refused(refusals::PAST_END),
-        memory: m,
-    }
-}
-
-// A pulse at a rising edge.
+// A pulse at a rising edge. It clears the saved number; only a reset clears the bits.
 fn next_of(m: DenonMemory, place: u32) -> DenonEventIn
     ensures { λ r. ⌜ r ≡ eventIn (answered machine m (nextOf (m .state) place (m .bits))) ⌝ }
 {
     let state = m.state;
     let bits = m.bits;
     match state {
-        DenonState::Idle => event_after(from_idle(place, bits)),
-        DenonState::Data(n) => {
-            if n < 47 {
-                event_after(from_bit(n, place, bits))
-            } else if n == 47 {
-                event_after(from_last(place, bits))
-            } else {
-                refused(m)
-            }
-        }
-        DenonState::Done => event_after(with_saved(m, 0)),
+        DenonState::Idle => match place {
+            SYNC => receiving(0, bits, 0),
+            _ => idle(bits, 0),
+        },
+        DenonState::Data(n) => match n {
+            LAST => match place {
+                ZERO => done(bits, 0),
+                ONE => done(bits, 0), // the last bit is never stored
+                _ => idle(bits, 0),
+            },
+            0..LAST => match place {
+                ZERO => receiving(n + 1, bits, 0),
+                ONE => receiving(n + 1, bits | (1 << n), 0),
+                _ => idle(bits, 0), // with the bits gathered so far
+            },
+            _ => refused(m),
+        },
+        DenonState::Done => done(bits, 0),
     }
 }
 
@@ -219,16 +157,14 @@ fn save(m: DenonMemory, duration: u32) -> DenonEventIn
     ensures { λ r. ⌜ r ≡ eventIn (answered machine m (withSaved m duration)) ⌝ }
 {
     let state = m.state;
+    let bits = m.bits;
     match state {
-        DenonState::Idle => event_after(with_saved(m, duration)),
-        DenonState::Data(n) => {
-            if n <= 47 {
-                event_after(with_saved(m, duration))
-            } else {
-                refused(m)
-            }
-        }
-        DenonState::Done => event_after(with_saved(m, duration)),
+        DenonState::Idle => idle(bits, duration),
+        DenonState::Data(n) => match n {
+            0..=LAST => receiving(n, bits, duration),
+            _ => refused(m),
+        },
+        DenonState::Done => done(bits, duration),
     }
 }
 
@@ -236,14 +172,10 @@ fn save(m: DenonMemory, duration: u32) -> DenonEventIn
 pub fn fresh() -> DenonMemory
     ensures { λ r. ⌜ r ≡ machine .fresh ⌝ }
 {
-    DenonMemory {
-        state: DenonState::Idle,
-        bits: 0,
-        saved: 0,
-    }
+    idle(0, 0).memory
 }
 
-// One call by place that Denon names, 8 for none of these: each place of the lookup goes on to its own arm. The sum is exact: no span holds one above 32 bits.
+// One call by place that Denon names: each place of the lookup goes on to its own arm. The sum is exact: no span holds one above 32 bits.
 pub fn event_in<'a>(
     low: &'a [u32; 8],
     high: &'a [u32; 8],
@@ -256,10 +188,10 @@ pub fn event_in<'a>(
     if rising {
         let total = m.saved as u64 + duration as u64;
         match spans::place_of(spans::lookup_in(low, high, total)) {
-            0 => next_of(m, 0),
-            1 => next_of(m, 1),
-            2 => next_of(m, 2),
-            _ => next_of(m, 8),
+            SYNC => next_of(m, SYNC),
+            ZERO => next_of(m, ZERO),
+            ONE => next_of(m, ONE),
+            _ => next_of(m, NONE),
         }
     } else {
         save(m, duration)
@@ -270,11 +202,10 @@ pub fn command_in(m: DenonMemory) -> Report
     ensures { λ r. ⌜ r ≡ machine .command m ⌝ }
 {
     let state = m.state;
-    let bits = m.bits;
     match state {
         DenonState::Idle => Report::Nothing,
         DenonState::Data(_) => Report::Nothing,
-        DenonState::Done => Report::Command(Command::Denon(DenonCommand::unpack(bits))),
+        DenonState::Done => Report::Command(Command::Denon(DenonCommand::unpack(m.bits))),
     }
 }
 
@@ -285,22 +216,20 @@ pub fn reset_in(m: DenonMemory) -> DenonMemory
     fresh()
 }
 
-// The rule of `reports` over what event_in answers. What is kept is made anew, so that it stays in registers.
-fn ruled(event: DenonEventIn) -> DenonTotalIn
-    ensures { λ r. ⌜ r ≡ totalIn (ruled machine (event .status) (event .memory)) ⌝ }
+// The same memory made anew, so that it stays in registers.
+fn again(m: DenonMemory) -> DenonMemory
+    ensures { λ r. ⌜ r ≡ m ⌝ }
 {
-    let status = event.status;
-    let after = event.memory;
-    let report = reports::report_of(status, command_in(after));
-    if reports::resets(status) {
-        let memory = reset_in(after);
-        DenonTotalIn { report, memory }
-    } else {
-        let memory = with_saved(after, after.saved);
-        DenonTotalIn { report, memory }
+    let state = m.state;
+    let bits = m.bits;
+    match state {
+        DenonState::Idle => idle(bits, m.saved).memory,
+        DenonState::Data(n) => receiving(n, bits, m.saved).memory,
+        DenonState::Done => done(bits, m.saved).memory,
     }
 }
 
+// The rule of `reports` over event_in.
 pub fn total_in<'a>(
     low: &'a [u32; 8],
     high: &'a [u32; 8],
@@ -310,7 +239,17 @@ pub fn total_in<'a>(
 ) -> DenonTotalIn
     ensures { λ r. ⌜ r ≡ totalIn (total machine (ends (now (low .entry)) (now (high .entry))) m (edge rising duration)) ⌝ }
 {
-    ruled(event_in(low, high, m, rising, duration))
+    let event = event_in(low, high, m, rising, duration);
+    let status = event.status;
+    let after = event.memory;
+    let report = reports::report_of(status, command_in(after));
+    if reports::resets(status) {
+        let memory = reset_in(after);
+        DenonTotalIn { report, memory }
+    } else {
+        let memory = again(after);
+        DenonTotalIn { report, memory }
+    }
 }
 
 impl DenonDecoder {
@@ -322,10 +261,8 @@ impl DenonDecoder {
         let answer = made.answer;
         let spans = made.spans;
         let memory = fresh();
-        DenonMade {
-            answer,
-            decoder: DenonDecoder { spans, memory },
-        }
+        let decoder = DenonDecoder { spans, memory };
+        DenonMade { answer, decoder }
     }
 
     // Refusal 4.
@@ -333,36 +270,26 @@ impl DenonDecoder {
         ensures { λ r. ⌜ r ≡ eventOf (self .spans) (event machine (self .spans) (self .memory) (edge rising duration)) ⌝ }
     {
         let spans = self.spans;
-        let memory = self.memory;
-        let event = event_in(&spans.low, &spans.high, memory, rising, duration);
+        let event = event_in(&spans.low, &spans.high, self.memory, rising, duration);
         let status = event.status;
-        let after = event.memory;
-        DenonEvent {
-            status,
-            decoder: DenonDecoder {
-                spans: spans::again(spans),
-                memory: after,
-            },
-        }
+        let memory = event.memory;
+        let spans = spans::again(spans);
+        let decoder = DenonDecoder { spans, memory };
+        DenonEvent { status, decoder }
     }
 
     pub fn command(self) -> Report
         ensures { λ r. ⌜ r ≡ machine .command (self .memory) ⌝ }
     {
-        let memory = self.memory;
-        command_in(memory)
+        command_in(self.memory)
     }
 
     pub fn reset(self) -> DenonDecoder
         ensures { λ r. ⌜ r ≡ decoderOf (self .spans) (machine .reset (self .memory)) ⌝ }
     {
         let spans = self.spans;
-        let memory = self.memory;
-        let after = reset_in(memory);
-        DenonDecoder {
-            spans,
-            memory: after,
-        }
+        let memory = reset_in(self.memory);
+        DenonDecoder { spans, memory }
     }
 
     // Refusal 4.
@@ -370,16 +297,11 @@ impl DenonDecoder {
         ensures { λ r. ⌜ r ≡ totalOf (self .spans) (total machine (self .spans) (self .memory) (edge rising duration)) ⌝ }
     {
         let spans = self.spans;
-        let memory = self.memory;
-        let total = total_in(&spans.low, &spans.high, memory, rising, duration);
+        let total = total_in(&spans.low, &spans.high, self.memory, rising, duration);
         let report = total.report;
-        let after = total.memory;
-        DenonTotal {
-            report,
-            decoder: DenonDecoder {
-                spans: spans::again(spans),
-                memory: after,
-            },
-        }
+        let memory = total.memory;
+        let spans = spans::again(spans);
+        let decoder = DenonDecoder { spans, memory };
+        DenonTotal { report, decoder }
     }
 }

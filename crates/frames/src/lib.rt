@@ -1,4 +1,4 @@
-// Document 01, "Frames": what is common to all encoders. Their answer, the scaling of NEC and RC5, and a bit of the packed command.
+// Document 01, "Frames": what all encoders share. Their answer, the scaling of NEC and RC5, and a bit of the packed command.
 ghost use mathlib.Core.Path.{_≡_};
 ghost use Rattle.frames.specs.Frames.{scaledOf, bitSet, encodedLength, writtenOf};
 

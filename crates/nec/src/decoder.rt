@@ -7,12 +7,25 @@ use reports::Status;
 use spans::Answer;
 use spans::Spans;
 ghost use mathlib.Core.Path.{_≡_};
-ghost use Prim.Native.Nat.{_≤_};
 ghost use Rattle.refusals.specs.Refusals as refusal;
 ghost use Rattle.spans.specs.Spans.{ends, spansOf};
 ghost use Rattle.reports.specs.Edges.{edge};
-ghost use Rattle.reports.specs.Machine.{refused, eventAfter, answered, event, ruled, total};
-ghost use Rattle.nec.specs.Decoder.{pastEnd, fromInit, fromReceiving, nextOf, withSaved, machine, eventIn, totalIn, decoderOf, eventOf, totalOf, madeOf};
+ghost use Rattle.reports.specs.Machine.{refused, eventAfter, answered, event, total};
+ghost use Rattle.nec.specs.Decoder.{pastEnd, memoryOf, nextOf, withSaved, machine, eventIn, totalIn, decoderOf, eventOf, totalOf, madeOf};
+ghost use Rattle.nec.specs.declared.decoder.NecState.the-variants.{Init, Receiving, Done, RepeatDone, Error};
+
+// Places of the spans, NONE for none of these; and the number of the last bit.
+const SYNC: u32 = 0;
+
+const REPEAT: u32 = 1;
+
+const ZERO: u32 = 2;
+
+const ONE: u32 = 3;
+
+const NONE: u32 = 8;
+
+const LAST: u32 = 31;
 
 pub enum NecState {
     Init,
@@ -67,181 +80,109 @@ pub fn past_end(m: NecMemory) -> bool
     let state = m.state;
     match state {
         NecState::Init => false,
-        NecState::Receiving(n) => 31 < n,
+        NecState::Receiving(n) => LAST < n,
         NecState::Done => false,
         NecState::RepeatDone => false,
         NecState::Error(_) => false,
     }
 }
 
-// A pulse gives a memory made anew in each arm, with the saved number cleared: made so, it stays in registers.
-fn from_init(place: u32, bits: u32) -> NecMemory
-    ensures { λ r. ⌜ r ≡ fromInit place bits ⌝ }
+// An answer for each state: its status, and the memory made anew, so that it stays in registers.
+fn init(bits: u32, saved: u32) -> NecEventIn
+    ensures { λ r. ⌜ r ≡ eventIn (eventAfter machine (memoryOf Init bits saved)) ⌝ }
 {
-    match place {
-        // sync
-        0 => NecMemory {
-            state: NecState::Receiving(0),
-            bits: 0,
-            saved: 0, // cleared: only SBP keeps it
-        },
-        // repeat
-        1 => NecMemory {
-            state: NecState::RepeatDone,
-            bits,
-            saved: 0,
-        },
-        _ => NecMemory {
-            state: NecState::Init,
-            bits,
-            saved: 0,
-        },
-    }
+    let status = Status::Idle;
+    let memory = NecMemory {
+        state: NecState::Init,
+        bits,
+        saved,
+    };
+    NecEventIn { status, memory }
 }
 
-fn from_bit(n: u32, place: u32, bits: u32) -> NecMemory
-    requires { ⌜ n ≤ 30 ⌝ }
-    ensures { λ r. ⌜ r ≡ fromReceiving n place bits ⌝ }
+fn receiving(n: u32, bits: u32, saved: u32) -> NecEventIn
+    ensures { λ r. ⌜ r ≡ eventIn (eventAfter machine (memoryOf (Receiving n) bits saved)) ⌝ }
 {
-    match place {
-        // zero
-        2 => NecMemory {
-            state: NecState::Receiving(n + 1),
-            bits,
-            saved: 0,
-        },
-        // one
-        3 => NecMemory {
-            state: NecState::Receiving(n + 1),
-            bits: bits | (1 << n),
-            saved: 0,
-        },
-        _ => NecMemory {
-            state: NecState::Error(Fault::Data),
-            bits,
-            saved: 0,
-        },
-    }
+    let status = Status::Receiving;
+    let memory = NecMemory {
+        state: NecState::Receiving(n),
+        bits,
+        saved,
+    };
+    NecEventIn { status, memory }
 }
 
-// Bit 31 ends the frame.
-fn from_last(place: u32, bits: u32) -> NecMemory
-    ensures { λ r. ⌜ r ≡ fromReceiving 31 place bits ⌝ }
+fn done(bits: u32, saved: u32) -> NecEventIn
+    ensures { λ r. ⌜ r ≡ eventIn (eventAfter machine (memoryOf Done bits saved)) ⌝ }
 {
-    match place {
-        // zero
-        2 => NecMemory {
-            state: NecState::Done,
-            bits,
-            saved: 0,
-        },
-        // one
-        3 => NecMemory {
-            state: NecState::Done,
-            bits: bits | 0x8000_0000,
-            saved: 0,
-        },
-        _ => NecMemory {
-            state: NecState::Error(Fault::Data),
-            bits,
-            saved: 0,
-        },
-    }
+    let status = Status::Done;
+    let memory = NecMemory {
+        state: NecState::Done,
+        bits,
+        saved,
+    };
+    NecEventIn { status, memory }
 }
 
-// The same state and bits with another saved number.
-fn with_saved(m: NecMemory, saved: u32) -> NecMemory
-    ensures { λ r. ⌜ r ≡ withSaved m saved ⌝ }
+fn repeat_done(bits: u32, saved: u32) -> NecEventIn
+    ensures { λ r. ⌜ r ≡ eventIn (eventAfter machine (memoryOf RepeatDone bits saved)) ⌝ }
 {
-    let state = m.state;
-    let bits = m.bits;
-    match state {
-        NecState::Init => NecMemory {
-            state: NecState::Init,
-            bits,
-            saved,
-        },
-        NecState::Receiving(n) => NecMemory {
-            state: NecState::Receiving(n),
-            bits,
-            saved,
-        },
-        NecState::Done => NecMemory {
-            state: NecState::Done,
-            bits,
-            saved,
-        },
-        NecState::RepeatDone => NecMemory {
-            state: NecState::RepeatDone,
-            bits,
-            saved,
-        },
-        NecState::Error(fault) => NecMemory {
-            state: NecState::Error(fault),
-            bits,
-            saved,
-        },
-    }
+    let status = Status::Done;
+    let memory = NecMemory {
+        state: NecState::RepeatDone,
+        bits,
+        saved,
+    };
+    NecEventIn { status, memory }
 }
 
-// The status, and the memory made anew beside it: bits and saved number, handed on together, would be moved as one number.
-fn event_after(m: NecMemory) -> NecEventIn
-    ensures { λ r. ⌜ r ≡ eventIn (eventAfter machine m) ⌝ }
+fn failed(fault: Fault, bits: u32, saved: u32) -> NecEventIn
+    ensures { λ r. ⌜ r ≡ eventIn (eventAfter machine (memoryOf (Error fault) bits saved)) ⌝ }
 {
-    let state = m.state;
-    match state {
-        NecState::Init => NecEventIn {
-            status: Status::Idle,
-            memory: with_saved(m, m.saved),
-        },
-        NecState::Receiving(_) => NecEventIn {
-            status: Status::Receiving,
-            memory: with_saved(m, m.saved),
-        },
-        NecState::Done => NecEventIn {
-            status: Status::Done,
-            memory: with_saved(m, m.saved),
-        },
-        NecState::RepeatDone => NecEventIn {
-            status: Status::Done,
-            memory: with_saved(m, m.saved),
-        },
-        NecState::Error(fault) => NecEventIn {
-            status: Status::Error(fault),
-            memory: with_saved(m, m.saved),
-        },
-    }
+    let status = Status::Error(fault);
+    let memory = NecMemory {
+        state: NecState::Error(fault),
+        bits,
+        saved,
+    };
+    NecEventIn { status, memory }
 }
 
-fn refused(m: NecMemory) -> NecEventIn
-    ensures { λ r. ⌜ r ≡ eventIn (refused refusal.pastEnd m) ⌝ }
+fn refused(memory: NecMemory) -> NecEventIn
+    ensures { λ r. ⌜ r ≡ eventIn (refused refusal.pastEnd memory) ⌝ }
 {
-    NecEventIn {
-        status: Status::Refused(refusals::PAST_END),
-        memory: m,
-    }
+    let status = Status::Refused(refusals::PAST_END);
+    NecEventIn { status, memory }
 }
 
-// A pulse at a rising edge.
+// A pulse at a rising edge. It clears the saved number.
 fn next_of(m: NecMemory, place: u32) -> NecEventIn
     ensures { λ r. ⌜ r ≡ eventIn (answered machine m (nextOf (m .state) place (m .bits))) ⌝ }
 {
     let state = m.state;
     let bits = m.bits;
     match state {
-        NecState::Init => event_after(from_init(place, bits)),
-        NecState::Receiving(n) => {
-            if n < 31 {
-                event_after(from_bit(n, place, bits))
-            } else if n == 31 {
-                event_after(from_last(place, bits))
-            } else {
-                refused(m)
-            }
-        }
-        NecState::Done => event_after(with_saved(m, 0)),
-        NecState::RepeatDone => event_after(with_saved(m, 0)),
-        NecState::Error(_) => event_after(with_saved(m, 0)),
+        NecState::Init => match place {
+            SYNC => receiving(0, 0, 0),
+            REPEAT => repeat_done(bits, 0),
+            _ => init(bits, 0),
+        },
+        NecState::Receiving(n) => match n {
+            LAST => match place {
+                ONE => done(bits | (1 << LAST), 0),
+                ZERO => done(bits, 0),
+                _ => failed(Fault::Data, bits, 0),
+            },
+            0..LAST => match place {
+                ONE => receiving(n + 1, bits | (1 << n), 0),
+                ZERO => receiving(n + 1, bits, 0),
+                _ => failed(Fault::Data, bits, 0),
+            },
+            _ => refused(m),
+        },
+        NecState::Done => done(bits, 0),
+        NecState::RepeatDone => repeat_done(bits, 0),
+        NecState::Error(fault) => failed(fault, bits, 0),
     }
 }
 
@@ -250,18 +191,16 @@ fn save(m: NecMemory, duration: u32) -> NecEventIn
     ensures { λ r. ⌜ r ≡ eventIn (answered machine m (withSaved m duration)) ⌝ }
 {
     let state = m.state;
+    let bits = m.bits;
     match state {
-        NecState::Init => event_after(with_saved(m, duration)),
-        NecState::Receiving(n) => {
-            if n <= 31 {
-                event_after(with_saved(m, duration))
-            } else {
-                refused(m)
-            }
-        }
-        NecState::Done => event_after(with_saved(m, duration)),
-        NecState::RepeatDone => event_after(with_saved(m, duration)),
-        NecState::Error(_) => event_after(with_saved(m, duration)),
+        NecState::Init => init(bits, duration),
+        NecState::Receiving(n) => match n {
+            0..=LAST => receiving(n, bits, duration),
+            _ => refused(m),
+        },
+        NecState::Done => done(bits, duration),
+        NecState::RepeatDone => repeat_done(bits, duration),
+        NecState::Error(fault) => failed(fault, bits, duration),
     }
 }
 
@@ -269,14 +208,10 @@ fn save(m: NecMemory, duration: u32) -> NecEventIn
 pub fn fresh() -> NecMemory
     ensures { λ r. ⌜ r ≡ machine .fresh ⌝ }
 {
-    NecMemory {
-        state: NecState::Init,
-        bits: 0,
-        saved: 0,
-    }
+    init(0, 0).memory
 }
 
-// One call by place that NEC names, 8 for none of these: each place of the lookup goes on to its own arm. The sum is exact: no span holds one above 32 bits.
+// One call by place that NEC names: each place of the lookup goes on to its own arm. The sum is exact: no span holds one above 32 bits.
 pub fn event_in<'a>(
     low: &'a [u32; 8],
     high: &'a [u32; 8],
@@ -289,11 +224,11 @@ pub fn event_in<'a>(
     if rising {
         let total = m.saved as u64 + duration as u64;
         match spans::place_of(spans::lookup_in(low, high, total)) {
-            0 => next_of(m, 0),
-            1 => next_of(m, 1),
-            2 => next_of(m, 2),
-            3 => next_of(m, 3),
-            _ => next_of(m, 8),
+            SYNC => next_of(m, SYNC),
+            REPEAT => next_of(m, REPEAT),
+            ZERO => next_of(m, ZERO),
+            ONE => next_of(m, ONE),
+            _ => next_of(m, NONE),
         }
     } else {
         save(m, duration)
@@ -304,12 +239,11 @@ pub fn command_in(m: NecMemory) -> Report
     ensures { λ r. ⌜ r ≡ machine .command m ⌝ }
 {
     let state = m.state;
-    let bits = m.bits;
     match state {
         NecState::Init => Report::Nothing,
         NecState::Receiving(_) => Report::Nothing,
-        NecState::Done => Report::Command(Command::Nec(NecCommand::unpack(bits, false))),
-        NecState::RepeatDone => Report::Command(Command::Nec(NecCommand::unpack(bits, true))),
+        NecState::Done => Report::Command(Command::Nec(NecCommand::unpack(m.bits, false))),
+        NecState::RepeatDone => Report::Command(Command::Nec(NecCommand::unpack(m.bits, true))),
         NecState::Error(_) => Report::Nothing,
     }
 }
@@ -318,29 +252,25 @@ pub fn command_in(m: NecMemory) -> Report
 pub fn reset_in(m: NecMemory) -> NecMemory
     ensures { λ r. ⌜ r ≡ machine .reset m ⌝ }
 {
-    NecMemory {
-        state: NecState::Init, // ready for the next frame
-        bits: m.bits,
-        saved: 0,
-    }
+    init(m.bits, 0).memory
 }
 
-// The rule of `reports` over what event_in answers. What is kept is made anew, so that it stays in registers.
-fn ruled(event: NecEventIn) -> NecTotalIn
-    ensures { λ r. ⌜ r ≡ totalIn (ruled machine (event .status) (event .memory)) ⌝ }
+// The same memory made anew, so that it stays in registers.
+fn again(m: NecMemory) -> NecMemory
+    ensures { λ r. ⌜ r ≡ m ⌝ }
 {
-    let status = event.status;
-    let after = event.memory;
-    let report = reports::report_of(status, command_in(after));
-    if reports::resets(status) {
-        let memory = reset_in(after);
-        NecTotalIn { report, memory }
-    } else {
-        let memory = with_saved(after, after.saved);
-        NecTotalIn { report, memory }
+    let state = m.state;
+    let bits = m.bits;
+    match state {
+        NecState::Init => init(bits, m.saved).memory,
+        NecState::Receiving(n) => receiving(n, bits, m.saved).memory,
+        NecState::Done => done(bits, m.saved).memory,
+        NecState::RepeatDone => repeat_done(bits, m.saved).memory,
+        NecState::Error(fault) => failed(fault, bits, m.saved).memory,
     }
 }
 
+// The rule of `reports` over event_in.
 pub fn total_in<'a>(
     low: &'a [u32; 8],
     high: &'a [u32; 8],
@@ -350,7 +280,17 @@ pub fn total_in<'a>(
 ) -> NecTotalIn
     ensures { λ r. ⌜ r ≡ totalIn (total machine (ends (now (low .entry)) (now (high .entry))) m (edge rising duration)) ⌝ }
 {
-    ruled(event_in(low, high, m, rising, duration))
+    let event = event_in(low, high, m, rising, duration);
+    let status = event.status;
+    let after = event.memory;
+    let report = reports::report_of(status, command_in(after));
+    if reports::resets(status) {
+        let memory = reset_in(after);
+        NecTotalIn { report, memory }
+    } else {
+        let memory = again(after);
+        NecTotalIn { report, memory }
+    }
 }
 
 impl NecDecoder {
@@ -362,10 +302,8 @@ impl NecDecoder {
         let answer = made.answer;
         let spans = made.spans;
         let memory = fresh();
-        NecMade {
-            answer,
-            decoder: NecDecoder { spans, memory },
-        }
+        let decoder = NecDecoder { spans, memory };
+        NecMade { answer, decoder }
     }
 
     // Refusal 4.
@@ -373,36 +311,26 @@ impl NecDecoder {
         ensures { λ r. ⌜ r ≡ eventOf (self .spans) (event machine (self .spans) (self .memory) (edge rising duration)) ⌝ }
     {
         let spans = self.spans;
-        let memory = self.memory;
-        let event = event_in(&spans.low, &spans.high, memory, rising, duration);
+        let event = event_in(&spans.low, &spans.high, self.memory, rising, duration);
         let status = event.status;
-        let after = event.memory;
-        NecEvent {
-            status,
-            decoder: NecDecoder {
-                spans: spans::again(spans),
-                memory: after,
-            },
-        }
+        let memory = event.memory;
+        let spans = spans::again(spans);
+        let decoder = NecDecoder { spans, memory };
+        NecEvent { status, decoder }
     }
 
     pub fn command(self) -> Report
         ensures { λ r. ⌜ r ≡ machine .command (self .memory) ⌝ }
     {
-        let memory = self.memory;
-        command_in(memory)
+        command_in(self.memory)
     }
 
     pub fn reset(self) -> NecDecoder
         ensures { λ r. ⌜ r ≡ decoderOf (self .spans) (machine .reset (self .memory)) ⌝ }
     {
         let spans = self.spans;
-        let memory = self.memory;
-        let after = reset_in(memory);
-        NecDecoder {
-            spans,
-            memory: after,
-        }
+        let memory = reset_in(self.memory);
+        NecDecoder { spans, memory }
     }
 
     // Refusal 4.
@@ -410,16 +338,11 @@ impl NecDecoder {
         ensures { λ r. ⌜ r ≡ totalOf (self .spans) (total machine (self .spans) (self .memory) (edge rising duration)) ⌝ }
     {
         let spans = self.spans;
-        let memory = self.memory;
-        let total = total_in(&spans.low, &spans.high, memory, rising, duration);
+        let total = total_in(&spans.low, &spans.high, self.memory, rising, duration);
         let report = total.report;
-        let after = total.memory;
-        NecTotal {
-            report,
-            decoder: NecDecoder {
-                spans: spans::again(spans),
-                memory: after,
-            },
-        }
+        let memory = total.memory;
+        let spans = spans::again(spans);
+        let decoder = NecDecoder { spans, memory };
+        NecTotal { report, decoder }
     }
 }

@@ -1,4 +1,4 @@
--- The call of `polled::poll`: what its step is passed, the ends lent for the lifetime ν, and of its `ensured` the clause alone. Assumes nothing.
+-- The call that `polled::poll` makes: what its step is passed, and what the step ensures. Assumes nothing.
 use mathlib.Core.Path.{_≡_, refl}
 use mathlib.Core.Bool.{Bool}
 use Prim.Native.Nat.{ℕ}

@@ -1,4 +1,4 @@
--- The ends of the spans inside the record that `poll` is lent, lent on to `step` for a lifetime that is made for the call: the two arrays are taken out of the record's cell, lent, taken back and put in again.
+-- `poll` is lent a record and lends the ends of its spans on to `step`. The two arrays are taken out of the record, lent for the call, taken back and put in again.
 -- Assumes nothing.
 use mathlib.Core.Path.{_≡_, refl}
 use Prim.Native.Nat.{ℕ, zero, _+_}

@@ -1,5 +1,5 @@
--- A poll is refused, unchanged or changed, by its two tests, and what each leaves. Of a run of polls, by induction on the levels: two lists joined, the count of reports,
--- and that n polls of an unchanged level report nothing and put the clock n further on.
+-- What a poll leaves in each of its three cases: refused, unchanged, changed.
+-- And the laws of a run of polls, by induction on the levels: two lists joined; as many reports as levels; n polls of an unchanged level report nothing and move the clock by n.
 -- Assumes nothing.
 use mathlib.Core.Path.{_≡_, refl, ap, _∙_}
 use mathlib.Core.Bool.{Bool, true, false, cond, Bool·beq}

@@ -1,4 +1,4 @@
--- The answer of the step that `poll_by_value` and `poll` share, for its private contract. What a poll gives is that of Polled.antt; nothing here need be believed.
+-- The answer of the step that `poll_by_value` and `poll` share, for its private contract. Polled.antt says what a poll gives; nothing here need be believed.
 use Prim.Native.Nat.{ℕ}
 use mathlib.Core.Bool.{Bool}
 use Rattle.spans.specs.declared.Spans.{Spans}
@@ -14,9 +14,9 @@ use Rattle.polled.specs.Polled.{pollOf}
 abbrev pub receiverOf : Spans → Memory → ℕ → ℕ → Bool → Polled
 receiverOf spans memory clock last level = record { decoder = decoderOf spans memory; clock = clock; «last_edge» = last; level = level }
 
--- a poll that hands nothing to the decoder
-abbrev pub partWithoutEdge : Report → ℕ → ℕ → Bool → Memory → Stepped
-partWithoutEdge report clock last level memory = record { report = report; clock = clock; «last_edge» = last; level = level; memory = memory }
+-- what a step gives
+abbrev pub steppedTo : Report → ℕ → ℕ → Bool → Memory → Stepped
+steppedTo report clock last level memory = record { report = report; clock = clock; «last_edge» = last; level = level; memory = memory }
 
 -- of what a poll gives, all but the spans
 abbrev pub partOf : PolledTotal → Stepped

@@ -1,4 +1,4 @@
-// Document 01, "The polled receiver". One poll is `step`, by value; `poll_by_value` and `poll`, which is lent the one record that the caller keeps, are thin over it.
+// Document 01, "The polled receiver". One poll is `step`, by value. `poll_by_value` and `poll` call it; `poll` is lent the record that the caller keeps.
 use protocols::decoder::Decoder;
 use protocols::decoder::Memory;
 use protocols::decoder::past_end;
@@ -8,7 +8,7 @@ use spans::Answer;
 ghost use mathlib.Core.Path.{_≡_};
 ghost use Rattle.spans.specs.Spans.{ends};
 ghost use Rattle.polled.specs.Polled.{polledAt, pollOf};
-ghost use Rattle.polled.specs.PolledSteps.{receiverOf, partWithoutEdge, stepOf};
+ghost use Rattle.polled.specs.PolledSteps.{receiverOf, steppedTo, stepOf};
 
 // The decoder, the clock, the time of the last edge and the last level.
 pub struct Polled {
@@ -87,9 +87,9 @@ impl Polled {
     }
 }
 
-// A poll that hands nothing to the decoder.
-fn without_edge(report: Report, clock: u32, last_edge: u32, level: bool, memory: Memory) -> Stepped
-    ensures { λ r. ⌜ r ≡ partWithoutEdge report clock «last_edge» level memory ⌝ }
+// One maker for every way out of a step: where `poll` is called, this form took the fewest instructions.
+fn stepped_to(report: Report, clock: u32, last_edge: u32, level: bool, memory: Memory) -> Stepped
+    ensures { λ r. ⌜ r ≡ steppedTo report clock «last_edge» level memory ⌝ }
 {
     Stepped {
         report,
@@ -113,7 +113,7 @@ fn step<'a>(
     ensures { λ r. ⌜ r ≡ stepOf (receiverOf (ends (now (low .entry)) (now (high .entry))) memory clock «last_edge» was) level ⌝ }
 {
     if past_end(memory) {
-        return without_edge(
+        return stepped_to(
             Report::Refused(refusals::PAST_END),
             clock,
             last_edge,
@@ -123,19 +123,13 @@ fn step<'a>(
     }
     let ticked = std::num::wrapping_add_u32(clock, 1);
     if was == level {
-        return without_edge(Report::Nothing, ticked, last_edge, was, memory);
+        return stepped_to(Report::Nothing, ticked, last_edge, was, memory);
     }
     let run = std::num::wrapping_sub_u32(ticked, last_edge);
     let total = total_in(low, high, memory, level, run);
     let report = total.report;
     let after = total.memory;
-    Stepped {
-        report,
-        clock: ticked,
-        last_edge: ticked,
-        level,
-        memory: after,
-    }
+    stepped_to(report, ticked, ticked, level, after)
 }
 
 // One poll of the record that the caller keeps: the step, which is lent the ends of the spans, and what it gives is stored. Where the level is unchanged so is the memory, and it is not stored.

@@ -1,5 +1,5 @@
--- The numbers of what `encode`, `spans_of` and the lookup answer tell its cases apart: each answer is read back from its numbers. By cases on the tests; a place
--- that is found is below 8, which stands for none, by induction on the places. Assumes nothing.
+-- The answers of `encode`, `spans_of` and the lookup can be read back from their numbers, so no two cases share them. By cases on the tests.
+-- A place that is found is below 8, and 8 stands for none: by induction on the places. Assumes nothing.
 use mathlib.Core.Path.{_≡_, refl}
 use mathlib.Core.Bool.{cond}
 use mathlib.Core.List.{List}

@@ -1,5 +1,5 @@
--- Bits as levels that change in their middle, which RC5 and RC6 share: a decoder that takes a bit at the edge in its middle follows such durations to
--- their end. By induction on the bits that are left; a bit is like the one before (two singles) or not (one double). Assumes nothing.
+-- RC5 and RC6 send a bit as two levels that change in its middle. A decoder that takes each bit at that edge follows such durations to their end.
+-- By induction on the bits that are left. A bit is the opposite of the one before it or the same: then one double duration comes, or two singles. Assumes nothing.
 use mathlib.Core.Path.{_≡_, refl}
 use mathlib.Core.Bool.{Bool, true, false, Bool·beq}
 use mathlib.Core.List.{List, [], _∷_, _++_}

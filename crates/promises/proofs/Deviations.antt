@@ -1,5 +1,5 @@
--- No durations are out of reach of `send`: whatever near durations of 32 bits come for those that are sent, some deviations make them. So `SentHeard`, which
--- speaks of deviations, loses none of the durations that demand 3 speaks of. Each deviation is the difference on 32 bits. Assumes nothing.
+-- Every list of near durations of 32 bits can be made by some deviations. So `SentHeard`, which speaks of deviations, covers all the durations of demand 3.
+-- Each deviation is the difference on 32 bits. Assumes nothing.
 use mathlib.Core.Path.{_≡_, refl}
 use mathlib.Core.List.{List, [], _∷_}
 use Prim.Native.Nat.{ℕ, _+_, _-_, _%_, _^_, _<_}

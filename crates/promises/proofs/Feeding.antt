@@ -1,5 +1,5 @@
--- What the loop of `feed` keeps: what comes of the edges from here on stays the same when the next edge is fed. By the definitions' clauses at the next
--- duration. Assumes nothing.
+-- What the loop of `feed` keeps: the outcome of the edges that are left stays the same when the next edge is fed.
+-- By the definitions at the next duration. Assumes nothing.
 use mathlib.Core.Path.{_≡_}
 use mathlib.Core.Bool.{Bool, true, false, not, cond}
 use mathlib.Core.List.{List, _∷_}

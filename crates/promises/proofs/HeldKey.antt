@@ -1,5 +1,5 @@
--- What firmware can rely on while a key is held (specs/HeldKey). While a command is held the state is Init with that command's bits, or a frame is being
--- received, and then no repeat is reported. Each edge keeps this (RepeatPulse), and so a run does, by induction on the edges. Assumes nothing.
+-- What firmware can rely on while a key is held (specs/HeldKey). While a command is held, either the state is Init with that command's bits, or a frame is being received
+-- and no repeat is reported. Each edge keeps this (RepeatPulse), so a run does, by induction on the edges. Assumes nothing.
 use mathlib.Core.Path.{_≡_, refl, sym, ap, _∙_}
 use mathlib.Core.Bool.{Bool, true, false, cond, true≢false, false≢true}
 use mathlib.Core.List.{List, [], _∷_, foldl, foldl-append}

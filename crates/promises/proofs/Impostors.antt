@@ -1,5 +1,5 @@
--- The impostors do not meet demand 3 (specs/Impostors). Demand 3 has a case for any earlier edges: the frame as it was encoded, after a silence one tick longer
--- than the bound. In the numbers of that run the command stands somewhere, so some edge reports it. The third impostor meets two such runs, one after the other.
+-- The impostors do not meet demand 3 (specs/Impostors). Demand 3 has a case for any earlier edges: the frame as encoded, after a silence one tick longer
+-- than the bound. In that run some edge reports the command. The third impostor must pass two such runs, one after the other.
 -- Assumes nothing.
 use mathlib.Core.Path.{_≡_, sym, _∙_}
 use mathlib.Core.Bool.{true}

@@ -1,5 +1,5 @@
--- Each NEC command sent at 1 MHz after a silence is heard. The silence ends in no span, so whatever went before the receiver then waits in Init; the head
--- is a sync; and by induction on the bits that are left each pair of durations adds its bit to those gathered. Assumes nothing.
+-- Each NEC command that is sent at 1 MHz after a silence is heard. The silence is no span, so the receiver then waits in Init, whatever came before. The head
+-- is a sync. Each pair of durations then adds its bit, by induction on the bits that are left. Assumes nothing.
 use mathlib.Core.Path.{_≡_, refl, sym, ap, _∙_}
 use mathlib.Core.Bool.{true, false, cond}
 use mathlib.Core.List.{List, [], _∷_}

@@ -1,5 +1,5 @@
--- NEC's bounds are tight: with one tick more of deviation, or a silence equal to the bound, the demand does not hold, for address 0 and command 0.
--- One run each, computed up to the edge that reports an error. Assumes nothing.
+-- NEC's bounds are tight. With one tick more of deviation, or a silence equal to the bound, the frame of address 0 and command 0 is missed.
+-- One run for each, computed up to the edge that reports an error. Assumes nothing.
 use mathlib.Core.Path.{refl}
 use mathlib.Core.Bool.{false}
 use mathlib.Core.List.{List, [], _∷_}

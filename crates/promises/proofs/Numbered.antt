@@ -1,4 +1,4 @@
--- Reports of nothing with one command among them, and their numbers: how the proofs, which speak of reports, meet the statements, which speak of numbers.
+-- The proofs speak of reports, the statements of their numbers. Here the two meet: reports of nothing with one command among them, and their numbers.
 -- Assumes nothing.
 use mathlib.Core.Path.{_≡_, refl, ap, _∙_}
 use mathlib.Core.List.{List, _∷_, _++_, map, map-append}

@@ -1,6 +1,6 @@
--- Demand 3 of RC5: every command of document 01's ranges, sent at 1 MHz after a silence, is heard (`EveryRc5Heard` of specs/Heard.antt).
--- The silence reads no span, so the first edge opens a frame, whatever came before. Then each bit is taken at the edge in its middle, where the clock is even:
--- what is gathered are the high bits of the packed command. With the last one it is whole, is reported, and unpacks to what was sent. Assumes nothing.
+-- Demand 3 of RC5: every command of document 01's ranges that is sent at 1 MHz after a silence is heard (`EveryRc5Heard` of specs/Heard.antt).
+-- The silence is no span, so the first edge opens a frame, whatever came before. Each bit is then taken at the edge in its middle, where the clock is even.
+-- With the last bit the packed command is whole. It is reported, and unpacks to what was sent. Assumes nothing.
 use mathlib.Core.Path.{_≡_, refl, sym, ap, _∙_}
 use mathlib.Core.Bool.{Bool, true, false, Bool·beq}
 use mathlib.Core.List.{List, [], _++_, append-nil}

@@ -1,5 +1,5 @@
--- RC5's bounds are tight: with one tick more of deviation, or a silence equal to the bound, the demand does not hold, for document 01's starred command
--- (address 0, command 0, toggle clear, start 3). One run each, computed: not one of its 26 edges reports anything. Assumes nothing.
+-- RC5's bounds are tight. With one tick more of deviation, or a silence equal to the bound, the frame of document 01's starred command is missed
+-- (address 0, command 0, toggle clear, start 3). One run for each, computed: none of its 26 edges reports anything. Assumes nothing.
 use mathlib.Core.Path.{_≡_, refl, sym, _∙_}
 use mathlib.Core.Bool.{true, false}
 use mathlib.Core.List.{List, [], _∷_, map}

@@ -1,5 +1,5 @@
--- The RC6 decoder at 1 MHz, from the middle of the toggle to the command: the step and the rule after it, the ticks of a duration, and the 16 bits.
--- A bit is taken at the edge in its middle, where the clock is odd, so the bits are followed as turns; the toggle's second half may run into the first of them.
+-- The RC6 decoder at 1 MHz, from the middle of the toggle to the command: its step and the rule after it, the ticks of a duration, and the 16 bits.
+-- Each bit is taken at the edge in its middle, where the clock is odd. The toggle's second half may run into the first bit.
 -- Assumes nothing.
 use mathlib.Core.Path.{_≡_, refl}
 use mathlib.Core.Bool.{Bool, true, false, not, cond}

@@ -1,5 +1,5 @@
--- The RC6 frame at 1 MHz as turns: after the leader, the start bit, the mode and the toggle its bits are turns of a single of 444, and where the last bit
--- is 0 a closing single follows. By induction on the bits that are left: a bit's first level merges with the one that stands, or has it written.
+-- The RC6 frame at 1 MHz: after the leader, the start bit, the mode and the toggle, its bits are turns of a single of 444, and after a last bit of 0 a closing single follows.
+-- By induction on the bits that are left: a bit's first level merges with the one before it, or has that one written.
 -- Assumes nothing.
 use mathlib.Core.Path.{_≡_, refl, ap}
 use mathlib.Core.Bool.{Bool, true, false, not, Bool·beq}

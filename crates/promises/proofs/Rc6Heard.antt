@@ -1,5 +1,5 @@
--- Each RC6 command sent at 1 MHz after a silence is heard. The silence is no span, so its rising edge opens a frame whatever went before; leader, start bit,
--- mode and toggle are read edge by edge; and the bits are followed to the command. Assumes nothing.
+-- Each RC6 command that is sent at 1 MHz after a silence is heard. The silence is no span, so its rising edge opens a frame, whatever came before. Leader, start bit,
+-- mode and toggle are read edge by edge. The bits are then followed to the command. Assumes nothing.
 use mathlib.Core.Path.{_≡_, refl, sym, ap, _∙_}
 use mathlib.Core.Bool.{Bool, true, false, not, cond}
 use mathlib.Core.List.{List, _∷_, _++_}

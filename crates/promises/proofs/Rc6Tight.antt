@@ -1,5 +1,5 @@
--- RC6's bounds are tight: with one tick more of deviation, or a silence equal to the bound, the demand does not hold, for address 0, command 0 and a clear toggle.
--- One run each, computed up to the edge that would report the command. And that frame's command is reported at its 43rd edge of 44, not at its last.
+-- RC6's bounds are tight. With one tick more of deviation, or a silence equal to the bound, the frame of address 0, command 0 and a clear toggle is missed.
+-- One run for each, computed up to the edge that would report the command. That frame's command is reported at edge 43 of 44.
 -- Assumes nothing.
 use mathlib.Core.Path.{_≡_, refl, sym, _∙_}
 use mathlib.Core.Bool.{true, false}

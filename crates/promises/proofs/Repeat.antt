@@ -1,5 +1,5 @@
--- The captioner's question: whose bits a repeat carries (specs/Repeat). One edge changes the bits as `gatheredAt` says, so what is gathered over a run is what
--- is remembered, by induction on the edges, and a repeat is read off that. From Init, and with no sync, no bit is added. Assumes nothing.
+-- The captioner's question: whose bits does a repeat carry (specs/Repeat)? One edge changes the bits as `gatheredAt` says. So the bits after a run are what was
+-- gathered, by induction on the edges, and a repeat is read off them. From Init and without a sync no bit is added. Assumes nothing.
 use mathlib.Core.Path.{_≡_, refl, sym, ap, _∙_}
 use mathlib.Core.Bool.{true, false, not}
 use mathlib.Core.List.{List, [], _∷_, _++_}

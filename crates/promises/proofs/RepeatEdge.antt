@@ -1,4 +1,4 @@
--- The captioner's question, one edge: what it does to the bits, what it reports, and who clears them (specs/Repeat). By what an edge can do (RepeatPulse).
+-- The captioner's question, for one edge: what it does to the bits, what it reports, and who clears them (specs/Repeat). By the cases of RepeatPulse.
 -- Assumes nothing.
 use mathlib.Core.Path.{_≡_, refl, sym, ap, _∙_}
 use mathlib.Core.Bool.{Bool, true, false, cond, false≢true}

@@ -1,5 +1,5 @@
--- The captioner's question: all that one edge can do to a NEC receiver through event_total, in seven cases. An edge that is refused leaves all; one that is
--- taken is the step and the rule after it, by cases on the state and its tests. Assumes nothing.
+-- The captioner's question: all that one edge can do to an NEC receiver through event_total, in seven cases. A refused edge changes nothing.
+-- Any other edge is the step and the rule after it, by cases on the state and its tests. Assumes nothing.
 use mathlib.Core.Path.{_≡_, refl, sym}
 use mathlib.Core.Bool.{Bool, true, false, cond, _&&_, false≢true}
 use Prim.Native.Nat.{ℕ, _+_, _^_}

@@ -1,5 +1,5 @@
--- The answer to the captioner's question shown on pulses at 1 MHz. Only the totals of pairs count (nec/proofs/Pairs), so one parting of each is computed.
--- Two pulses are too few whatever they are: after a sync that opens one memory is left, and its next pulse reports nothing or error Data. Assumes nothing.
+-- The answer to the captioner's question, shown on pulses at 1 MHz. Only the total of a pair counts (nec/proofs/Pairs), so one way to split each total is computed.
+-- Two pulses are too few, whatever they are: after a sync the next pulse reports nothing or error Data. Assumes nothing.
 use mathlib.Core.Path.{_≡_, refl, ap, _∙_}
 use mathlib.Core.Bool.{true, false}
 use mathlib.Core.List.{List, [], _∷_, map}

@@ -1,7 +1,7 @@
--- Edges that report nothing, one after another, up to one that reports a command: what the proof of each protocol is put together from.
+-- Edges that report nothing, one after another, up to one that reports a command. The proof of each protocol is put together from these.
 --     here, onward    no edge, and one more edge
 --     heard           from the first edge and such a run to what `Heard` asks
--- A step is told apart from the rule of event_total after it, so that the step of the last bit is one like the others. Assumes nothing.
+-- The step stands apart from the rule after it, so that the step of the last bit is like the others. Assumes nothing.
 use mathlib.Core.Path.{_≡_, refl, sym, ap, _∙_}
 use mathlib.Core.Bool.{Bool, true, false, not}
 use mathlib.Core.List.{List, [], _∷_, _++_, map}

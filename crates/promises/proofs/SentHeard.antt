@@ -1,6 +1,5 @@
--- What `send` answers where demand 3's hypotheses hold: the command that was sent, at the edge that settles the last bit, and nothing besides. It follows from demand 3
--- of the protocol's own decoder by two laws: reports with the numbers that `onlyAt` lists come to that answer, and a decoder by number reports as the
--- protocol's own.
+-- What `send` answers within demand 3's tolerances: the command that was sent, at the edge that settles the last bit, and nothing else. It follows from demand 3
+-- of the protocol's own decoder by two laws. Reports with the numbers that `onlyAt` lists give that answer. A decoder by number reports as the protocol's own.
 -- Assumes nothing.
 use mathlib.Core.Path.{_≡_, refl, sym, ap, _∙_}
 use mathlib.Core.Bool.{Bool, true, false, cond}

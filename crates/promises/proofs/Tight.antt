@@ -1,4 +1,4 @@
--- What a proof that a bound is tight needs: durations are near by one computed test, and lists of numbers that differ in a kind are different.
+-- What a proof that a bound is tight needs. Durations are near by one computed test. Lists of numbers that differ in a kind are different.
 -- Assumes nothing.
 use mathlib.Core.Path.{_≡_, ap}
 use mathlib.Core.Bool.{Bool, true, false, _&&_}

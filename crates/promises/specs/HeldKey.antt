@@ -1,5 +1,5 @@
--- The captioner's question for firmware, which sees the reports alone: it holds a whole command until an error, drops the repeats that come while it holds none,
--- and so never acts on a broken frame's bits. Of NEC through event_total, at every rate and for any edges.
+-- The captioner's question for firmware, which sees the reports alone. It holds a whole command until an error, and drops the repeats that come while it holds none.
+-- So it never acts on a broken frame's bits. This is about NEC through event_total, at every rate and for any edges.
 use Prim.Native.Nat.{ℕ}
 use mathlib.Core.Path.{_≡_}
 use mathlib.Core.Bool.{Bool, true, false, not, cond}

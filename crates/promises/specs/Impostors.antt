@@ -1,5 +1,5 @@
 -- Document 01, "These must be rejected: .. a decoder that reports one fixed command (demand 3, for two different commands); one that never reports ..; one that
--- decodes its first frame and idles afterwards (3, any earlier edges)": no such receiver, a machine with any spans, meets demand 3.
+-- decodes its first frame and idles afterwards (3, any earlier edges)". No such receiver meets demand 3, whatever its machine and spans.
 use mathlib.Core.Path.{_≡_}
 use mathlib.Core.List.{List, _∷_, _++_}
 use Prim.Native.Nat.{ℕ}

@@ -1,4 +1,4 @@
--- Demand 3 as a call: the frame of a command is sent at 1 MHz to a decoder, whatever its state, and all that it reports is summed up.
+-- Demand 3 as a call. The frame of a command is sent at 1 MHz to a decoder in any state. The answer sums up what it reports.
 use Prim.Native.Nat.{ℕ, _+_, _-_, _%_, _^_, _≤_, _<_}
 use mathlib.Core.Path.{_≡_}
 use mathlib.Core.Bool.{Bool, true, false, cond}

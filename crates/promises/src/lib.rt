@@ -1,2 +1,2 @@
-// What is promised of the layers below: specs/ says it, proofs/ proves it. One call of code puts demand 3 to use.
+// What is promised of the crates below: specs/ says it, proofs/ proves it, and `send` is demand 3 as a call.
 pub mod send;

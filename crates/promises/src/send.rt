@@ -1,4 +1,4 @@
-// Demand 3 as a call: the frame of a command is sent at 1 MHz to a decoder, after a silence and with a deviation at each duration; what was reported comes back.
+// Demand 3 as a call. The frame of a command is sent at 1 MHz to a decoder, after a silence and with a deviation at each duration. The answer says what was reported.
 use commands::Command;
 use frames::Encoded;
 use protocols::decoder::Decoder;

@@ -1,5 +1,5 @@
--- No event changes a decoder's protocol. A decoder by number is the protocol's own: each rule is, by computation, so each call and any run of edges are, by
--- the laws of `reports` on a machine inside another. Assumes nothing.
+-- No event changes a decoder's protocol. A decoder by number answers as the protocol's own. Each rule does by computation. So each call and any run of edges do,
+-- by the laws of `reports` on a machine inside another. Assumes nothing.
 use mathlib.Core.Path.{_≡_, ap}
 use Rattle.spans.specs.declared.Spans.{Spans}
 use Rattle.reports.specs.Edges.{Edge}

@@ -1,4 +1,4 @@
-// A decoder of any protocol, by its number. Each call is the protocol's own, over the memory that stands in the enum.
+// A decoder of any protocol, by its number. Each call is the protocol's own, over the memory that the enum holds.
 use denon::decoder::DenonEventIn;
 use denon::decoder::DenonMemory;
 use denon::decoder::DenonTotalIn;

@@ -11,8 +11,16 @@ ghost use Prim.Native.Nat.{_≤_};
 ghost use Rattle.refusals.specs.Refusals as refusal;
 ghost use Rattle.spans.specs.Spans.{spansOf, ends};
 ghost use Rattle.reports.specs.Edges.{edge};
-ghost use Rattle.reports.specs.Machine.{refused, eventAfter, answered, event, ruled, total};
-ghost use Rattle.rc5.specs.Decoder.{pastEnd, resetIn, counted, fromIdle, withBit, fromData, readFrom, machine, eventIn, totalIn, decoderOf, eventOf, totalOf, madeOf};
+ghost use Rattle.reports.specs.Machine.{refused, eventAfter, answered, event, total};
+ghost use Rattle.rc5.specs.Decoder.{pastEnd, resetIn, memoryOf, counted, fromIdle, withBit, readFrom, machine, eventIn, totalIn, decoderOf, eventOf, totalOf, madeOf};
+ghost use Rattle.rc5.specs.declared.decoder.Rc5State.the-variants.{Idle, Data, Done, Error};
+
+// The bits are counted down. The first is set by the edge that opens a frame.
+const FIRST: u8 = 13;
+
+const SECOND: u8 = 12;
+
+const LAST: u8 = 0;
 
 pub enum Rc5State {
     Idle,
@@ -66,27 +74,76 @@ pub fn past_end(m: Rc5Memory) -> bool
     let state = m.state;
     match state {
         Rc5State::Idle => false,
-        Rc5State::Data(n) => 12 < n,
+        Rc5State::Data(n) => SECOND < n,
         Rc5State::Done => false,
         Rc5State::Error(_) => false,
     }
 }
 
-fn from_idle(bits: u16, clock: u64, rising: bool) -> Rc5Memory
-    ensures { λ r. ⌜ r ≡ fromIdle bits clock rising ⌝ }
+// One answer for each state, with its status. The memory is made anew beside it: so it stays in registers.
+fn idle(bits: u16, clock: u64) -> Rc5EventIn
+    ensures { λ r. ⌜ r ≡ eventIn (eventAfter machine (memoryOf Idle bits clock)) ⌝ }
+{
+    let status = Status::Idle;
+    let memory = Rc5Memory {
+        state: Rc5State::Idle,
+        bits,
+        clock,
+    };
+    Rc5EventIn { status, memory }
+}
+
+fn receiving(n: u8, bits: u16, clock: u64) -> Rc5EventIn
+    ensures { λ r. ⌜ r ≡ eventIn (eventAfter machine (memoryOf (Data n) bits clock)) ⌝ }
+{
+    let status = Status::Receiving;
+    let memory = Rc5Memory {
+        state: Rc5State::Data(n),
+        bits,
+        clock,
+    };
+    Rc5EventIn { status, memory }
+}
+
+fn done(bits: u16, clock: u64) -> Rc5EventIn
+    ensures { λ r. ⌜ r ≡ eventIn (eventAfter machine (memoryOf Done bits clock)) ⌝ }
+{
+    let status = Status::Done;
+    let memory = Rc5Memory {
+        state: Rc5State::Done,
+        bits,
+        clock,
+    };
+    Rc5EventIn { status, memory }
+}
+
+fn failed(fault: Fault, bits: u16, clock: u64) -> Rc5EventIn
+    ensures { λ r. ⌜ r ≡ eventIn (eventAfter machine (memoryOf (Error fault) bits clock)) ⌝ }
+{
+    let status = Status::Error(fault);
+    let memory = Rc5Memory {
+        state: Rc5State::Error(fault),
+        bits,
+        clock,
+    };
+    Rc5EventIn { status, memory }
+}
+
+fn refused(memory: Rc5Memory) -> Rc5EventIn
+    ensures { λ r. ⌜ r ≡ eventIn (refused refusal.pastEnd memory) ⌝ }
+{
+    let status = Status::Refused(refusals::PAST_END);
+    Rc5EventIn { status, memory }
+}
+
+// From Idle a rising edge opens a frame.
+fn from_idle(bits: u16, clock: u64, rising: bool) -> Rc5EventIn
+    ensures { λ r. ⌜ r ≡ eventIn (eventAfter machine (fromIdle bits clock rising)) ⌝ }
 {
     if rising {
-        Rc5Memory {
-            state: Rc5State::Data(12),
-            bits: bits | (1 << 13),
-            clock: 0,
-        }
+        receiving(SECOND, bits | (1 << FIRST), 0)
     } else {
-        Rc5Memory {
-            state: Rc5State::Idle,
-            bits,
-            clock,
-        }
+        idle(bits, clock)
     }
 }
 
@@ -98,111 +155,40 @@ fn with_bit(n: u8, bits: u16, rising: bool) -> u16
     if rising { bits | (1 << n) } else { bits }
 }
 
-// A bit is taken at an even clock.
-fn from_data(n: u8, bits: u16, clock: u64, rising: bool) -> Rc5Memory
-    requires { ⌜ n ≤ 12 ⌝ }
-    ensures { λ r. ⌜ r ≡ fromData n bits clock rising ⌝ }
-{
-    if clock % 2 == 0 {
-        let bits = with_bit(n, bits, rising);
-        if n == 0 {
-            Rc5Memory {
-                state: Rc5State::Done,
-                bits,
-                clock,
-            }
-        } else {
-            Rc5Memory {
-                state: Rc5State::Data(n - 1),
-                bits,
-                clock,
-            }
-        }
-    } else {
-        Rc5Memory {
-            state: Rc5State::Data(n),
-            bits,
-            clock,
-        }
-    }
-}
-
-// What `event` answers after a step, an arm for each state: one that is handed to another function is moved as one packed number.
-fn event_after(m: Rc5Memory) -> Rc5EventIn
-    ensures { λ r. ⌜ r ≡ eventIn (eventAfter machine m) ⌝ }
-{
-    let state = m.state;
-    match state {
-        Rc5State::Idle => Rc5EventIn {
-            status: Status::Idle,
-            memory: m,
-        },
-        Rc5State::Data(_) => Rc5EventIn {
-            status: Status::Receiving,
-            memory: m,
-        },
-        Rc5State::Done => Rc5EventIn {
-            status: Status::Done,
-            memory: m,
-        },
-        Rc5State::Error(fault) => Rc5EventIn {
-            status: Status::Error(fault),
-            memory: m,
-        },
-    }
-}
-
-// Refusal 4: all stays as it is.
-fn refused(m: Rc5Memory) -> Rc5EventIn
-    ensures { λ r. ⌜ r ≡ eventIn (refused refusal.pastEnd m) ⌝ }
-{
-    Rc5EventIn {
-        status: Status::Refused(refusals::PAST_END),
-        memory: m,
-    }
-}
-
-// An edge after so many ticks; the clock goes round at 64 bits. Refusal 4 is tested where the counter is at hand.
+// An edge after so many ticks. A bit is taken at an even clock; the clock goes round at 64 bits.
 fn next_of(m: Rc5Memory, ticks: u64, rising: bool) -> Rc5EventIn
     ensures { λ r. ⌜ r ≡ eventIn (answered machine m (readFrom (counted m ticks) rising)) ⌝ }
 {
+    let state = m.state;
     let bits = m.bits;
     let clock = std::num::wrapping_add_u64(m.clock, ticks);
-    let state = m.state;
     match state {
-        Rc5State::Idle => event_after(from_idle(bits, clock, rising)),
-        Rc5State::Data(n) => if n <= 12 {
-            event_after(from_data(n, bits, clock, rising))
-        } else {
+        Rc5State::Idle => from_idle(bits, clock, rising),
+        Rc5State::Data(n) => if SECOND < n {
             refused(m)
+        } else if clock % 2 == 0 {
+            let bits = with_bit(n, bits, rising);
+            if n == LAST {
+                done(bits, clock)
+            } else {
+                receiving(n - 1, bits, clock)
+            }
+        } else {
+            receiving(n, bits, clock)
         },
-        Rc5State::Done => event_after(Rc5Memory {
-            state: Rc5State::Done,
-            bits,
-            clock,
-        }),
-        Rc5State::Error(fault) => event_after(Rc5Memory {
-            state: Rc5State::Error(fault),
-            bits,
-            clock,
-        }),
+        Rc5State::Done => done(bits, clock),
+        Rc5State::Error(fault) => failed(fault, bits, clock),
     }
 }
 
-// No span resets at once, and the same edge is read from Idle.
+// No span resets at once, and the same edge is read from Idle: no error is reached.
 fn no_span(m: Rc5Memory, rising: bool) -> Rc5EventIn
     ensures { λ r. ⌜ r ≡ eventIn (answered machine m (readFrom (resetIn m) rising)) ⌝ }
 {
-    let state = m.state;
-    match state {
-        Rc5State::Idle => event_after(from_idle(0, 0, rising)),
-        Rc5State::Data(n) => if 12 < n {
-            refused(m)
-        } else {
-            event_after(from_idle(0, 0, rising))
-        },
-        Rc5State::Done => event_after(from_idle(0, 0, rising)),
-        Rc5State::Error(_) => event_after(from_idle(0, 0, rising)),
+    if past_end(m) {
+        refused(m)
+    } else {
+        from_idle(0, 0, rising)
     }
 }
 
@@ -210,11 +196,7 @@ fn no_span(m: Rc5Memory, rising: bool) -> Rc5EventIn
 pub fn fresh() -> Rc5Memory
     ensures { λ r. ⌜ r ≡ machine .fresh ⌝ }
 {
-    Rc5Memory {
-        state: Rc5State::Idle,
-        bits: 0,
-        clock: 0,
-    }
+    idle(0, 0).memory
 }
 
 // Ticks are place + 1. A call for each place: the compiler then goes on from the place that it finds.
@@ -254,24 +236,7 @@ pub fn reset_in(m: Rc5Memory) -> Rc5Memory
     fresh()
 }
 
-// The rule of `reports` over what event_in answers.
-fn ruled(event: Rc5EventIn) -> Rc5TotalIn
-    ensures { λ r. ⌜ r ≡ totalIn (ruled machine (event .status) (event .memory)) ⌝ }
-{
-    let status = event.status;
-    let after = event.memory;
-    let report = reports::report_of(status, command_in(after));
-    if reports::resets(status) {
-        let memory = reset_in(after);
-        Rc5TotalIn { report, memory }
-    } else {
-        Rc5TotalIn {
-            report,
-            memory: after,
-        }
-    }
-}
-
+// The rule of `reports` over event_in.
 pub fn total_in<'a>(
     low: &'a [u32; 8],
     high: &'a [u32; 8],
@@ -281,7 +246,16 @@ pub fn total_in<'a>(
 ) -> Rc5TotalIn
     ensures { λ r. ⌜ r ≡ totalIn (total machine (ends (now (low .entry)) (now (high .entry))) m (edge rising duration)) ⌝ }
 {
-    ruled(event_in(low, high, m, rising, duration))
+    let event = event_in(low, high, m, rising, duration);
+    let status = event.status;
+    let memory = event.memory;
+    let report = reports::report_of(status, command_in(memory));
+    if reports::resets(status) {
+        let memory = reset_in(memory);
+        Rc5TotalIn { report, memory }
+    } else {
+        Rc5TotalIn { report, memory }
+    }
 }
 
 impl Rc5Decoder {
@@ -293,10 +267,8 @@ impl Rc5Decoder {
         let answer = made.answer;
         let spans = made.spans;
         let memory = fresh();
-        Rc5Made {
-            answer,
-            decoder: Rc5Decoder { spans, memory },
-        }
+        let decoder = Rc5Decoder { spans, memory };
+        Rc5Made { answer, decoder }
     }
 
     // Refusal 4.
@@ -307,14 +279,9 @@ impl Rc5Decoder {
         let memory = self.memory;
         let event = event_in(&spans.low, &spans.high, memory, rising, duration);
         let status = event.status;
-        let after = event.memory;
-        Rc5Event {
-            status,
-            decoder: Rc5Decoder {
-                spans,
-                memory: after,
-            },
-        }
+        let memory = event.memory;
+        let decoder = Rc5Decoder { spans, memory };
+        Rc5Event { status, decoder }
     }
 
     pub fn command(self) -> Report
@@ -329,11 +296,8 @@ impl Rc5Decoder {
     {
         let spans = self.spans;
         let memory = self.memory;
-        let after = reset_in(memory);
-        Rc5Decoder {
-            spans,
-            memory: after,
-        }
+        let memory = reset_in(memory);
+        Rc5Decoder { spans, memory }
     }
 
     // Refusal 4.
@@ -344,13 +308,8 @@ impl Rc5Decoder {
         let memory = self.memory;
         let total = total_in(&spans.low, &spans.high, memory, rising, duration);
         let report = total.report;
-        let after = total.memory;
-        Rc5Total {
-            report,
-            decoder: Rc5Decoder {
-                spans,
-                memory: after,
-            },
-        }
+        let memory = total.memory;
+        let decoder = Rc5Decoder { spans, memory };
+        Rc5Total { report, decoder }
     }
 }

@@ -1,2 +1,2 @@
-// Document 01, RC5.
+// The RC5 decoder.
 pub mod decoder;

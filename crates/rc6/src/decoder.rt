@@ -11,9 +11,27 @@ ghost use Prim.Native.Nat.{_≤_};
 ghost use Rattle.refusals.specs.Refusals as refusal;
 ghost use Rattle.spans.specs.Spans.{ends, spansOf};
 ghost use Rattle.reports.specs.Edges.{edge};
-ghost use Rattle.reports.specs.Machine.{refused, eventAfter, answered, event, ruled, total};
+ghost use Rattle.reports.specs.declared.Status.the-variants as status;
+ghost use Rattle.reports.specs.Machine.{refused, eventAfter, answered, event, total};
 ghost use Rattle.rc6.specs.declared.decoder.Rc6State.the-variants.{Idle, HeaderData, Data};
-ghost use Rattle.rc6.specs.Decoder.{pastEnd, isFall, isRise, isOdd, withBit, inState, fromIdle, fromLeading, fromLeadingPause, fromHeaderData, trailed, fromTrailing, fromData, counted, nextOf, resetIn, machine, eventIn, totalIn, decoderOf, madeOf, eventOf, totalOf};
+ghost use Rattle.rc6.specs.Decoder.{pastEnd, isFall, isRise, isOdd, withBit, memoryOf, inState, fromIdle, fromLeading, fromLeadingPause, fromHeaderData, fromTrailing, fromData, counted, nextOf, resetIn, machine, eventIn, totalIn, decoderOf, madeOf, eventOf, totalOf};
+
+// Ticks of the leader and its pause.
+const LEADER: u64 = 6;
+
+const PAUSE: u64 = 2;
+
+// Ticks of the trailer: a fall that sets the toggle, a rise that clears it, a fall that waits.
+const TRAILER_SET: u64 = 3;
+
+const TRAILER_CLEAR: u64 = 2;
+
+const TRAILER_WAIT: u64 = 1;
+
+// Bits come highest first, from these down to 0.
+const FIRST_HEADER: u32 = 3;
+
+const FIRST_DATA: u32 = 15;
 
 pub enum Rc6State {
     Idle,
@@ -75,9 +93,9 @@ pub fn past_end(m: Rc6Memory) -> bool
         Rc6State::Idle => false,
         Rc6State::Leading => false,
         Rc6State::LeadingPause => false,
-        Rc6State::HeaderData(n) => 3 < n,
+        Rc6State::HeaderData(n) => FIRST_HEADER < n,
         Rc6State::Trailing => false,
-        Rc6State::Data(n) => 15 < n,
+        Rc6State::Data(n) => FIRST_DATA < n,
         Rc6State::Done => false,
         Rc6State::Error(_) => false,
     }
@@ -123,26 +141,26 @@ fn to_idle(m: Rc6Memory) -> Rc6Memory
     }
 }
 
-fn in_header(n: u32, m: Rc6Memory) -> Rc6Memory
-    ensures { λ r. ⌜ r ≡ inState m (HeaderData n) ⌝ }
+fn in_header(n: u32, header: u16, m: Rc6Memory) -> Rc6Memory
+    ensures { λ r. ⌜ r ≡ memoryOf (HeaderData n) (m .«data») header (m .toggle) (m .clock) ⌝ }
 {
     Rc6Memory {
         state: Rc6State::HeaderData(n),
         data: m.data,
-        header: m.header,
+        header,
         toggle: m.toggle,
         clock: m.clock,
     }
 }
 
-fn in_data(n: u32, m: Rc6Memory) -> Rc6Memory
-    ensures { λ r. ⌜ r ≡ inState m (Data n) ⌝ }
+fn in_data(n: u32, bits: u16, toggle: bool, m: Rc6Memory) -> Rc6Memory
+    ensures { λ r. ⌜ r ≡ memoryOf (Data n) bits (m .header) toggle (m .clock) ⌝ }
 {
     Rc6Memory {
         state: Rc6State::Data(n),
-        data: m.data,
+        data: bits,
         header: m.header,
-        toggle: m.toggle,
+        toggle,
         clock: m.clock,
     }
 }
@@ -167,7 +185,7 @@ fn from_idle(m: Rc6Memory, rising: bool) -> Rc6Memory
 fn from_leading(m: Rc6Memory, rising: bool, ticks: u64) -> Rc6Memory
     ensures { λ r. ⌜ r ≡ fromLeading m rising ticks ⌝ }
 {
-    if is_fall(rising, ticks, 6) {
+    if is_fall(rising, ticks, LEADER) {
         Rc6Memory {
             state: Rc6State::LeadingPause,
             data: m.data,
@@ -183,14 +201,8 @@ fn from_leading(m: Rc6Memory, rising: bool, ticks: u64) -> Rc6Memory
 fn from_leading_pause(m: Rc6Memory, rising: bool, ticks: u64) -> Rc6Memory
     ensures { λ r. ⌜ r ≡ fromLeadingPause m rising ticks ⌝ }
 {
-    if is_rise(rising, ticks, 2) {
-        Rc6Memory {
-            state: Rc6State::HeaderData(3),
-            data: m.data,
-            header: m.header,
-            toggle: m.toggle,
-            clock: m.clock,
-        }
+    if is_rise(rising, ticks, PAUSE) {
+        in_header(FIRST_HEADER, m.header, m)
     } else {
         to_idle(m)
     }
@@ -212,40 +224,22 @@ fn from_header_data(n: u32, m: Rc6Memory, rising: bool) -> Rc6Memory
                 clock: m.clock,
             }
         } else {
-            Rc6Memory {
-                state: Rc6State::HeaderData(n - 1),
-                data: m.data,
-                header,
-                toggle: m.toggle,
-                clock: m.clock,
-            }
+            in_header(n - 1, header, m)
         }
     } else {
-        in_header(n, m)
+        in_header(n, m.header, m)
     }
 }
 
 // The data begin, with the toggle that the trailer gave.
-fn trailed(m: Rc6Memory, toggle: bool) -> Rc6Memory
-    ensures { λ r. ⌜ r ≡ trailed m toggle ⌝ }
-{
-    Rc6Memory {
-        state: Rc6State::Data(15),
-        data: m.data,
-        header: m.header,
-        toggle,
-        clock: m.clock,
-    }
-}
-
 fn from_trailing(m: Rc6Memory, rising: bool, ticks: u64) -> Rc6Memory
     ensures { λ r. ⌜ r ≡ fromTrailing m rising ticks ⌝ }
 {
-    if is_fall(rising, ticks, 3) {
-        trailed(m, true)
-    } else if is_rise(rising, ticks, 2) {
-        trailed(m, false)
-    } else if is_fall(rising, ticks, 1) {
+    if is_fall(rising, ticks, TRAILER_SET) {
+        in_data(FIRST_DATA, m.data, true, m)
+    } else if is_rise(rising, ticks, TRAILER_CLEAR) {
+        in_data(FIRST_DATA, m.data, false, m)
+    } else if is_fall(rising, ticks, TRAILER_WAIT) {
         Rc6Memory {
             state: Rc6State::Trailing,
             data: m.data,
@@ -273,17 +267,18 @@ fn from_data(n: u32, m: Rc6Memory, rising: bool) -> Rc6Memory
                 clock: m.clock,
             }
         } else {
-            Rc6Memory {
-                state: Rc6State::Data(n - 1),
-                data,
-                header: m.header,
-                toggle: m.toggle,
-                clock: m.clock,
-            }
+            in_data(n - 1, data, m.toggle, m)
         }
     } else {
-        in_data(n, m)
+        in_data(n, m.data, m.toggle, m)
     }
+}
+
+fn receiving(memory: Rc6Memory) -> Rc6EventIn
+    ensures { λ r. ⌜ r ≡ eventIn (record { status = status.Receiving; memory = memory }) ⌝ }
+{
+    let status = Status::Receiving;
+    Rc6EventIn { status, memory }
 }
 
 // What `event` answers after a step, an arm for each state: one that is handed to another function is moved as one packed number.
@@ -296,26 +291,11 @@ fn event_after(m: Rc6Memory) -> Rc6EventIn
             status: Status::Idle,
             memory: m,
         },
-        Rc6State::Leading => Rc6EventIn {
-            status: Status::Receiving,
-            memory: m,
-        },
-        Rc6State::LeadingPause => Rc6EventIn {
-            status: Status::Receiving,
-            memory: m,
-        },
-        Rc6State::HeaderData(_) => Rc6EventIn {
-            status: Status::Receiving,
-            memory: m,
-        },
-        Rc6State::Trailing => Rc6EventIn {
-            status: Status::Receiving,
-            memory: m,
-        },
-        Rc6State::Data(_) => Rc6EventIn {
-            status: Status::Receiving,
-            memory: m,
-        },
+        Rc6State::Leading => receiving(m),
+        Rc6State::LeadingPause => receiving(m),
+        Rc6State::HeaderData(_) => receiving(m),
+        Rc6State::Trailing => receiving(m),
+        Rc6State::Data(_) => receiving(m),
         Rc6State::Done => Rc6EventIn {
             status: Status::Done,
             memory: m,
@@ -327,14 +307,11 @@ fn event_after(m: Rc6Memory) -> Rc6EventIn
     }
 }
 
-// Refusal 4: all stays as it is.
-fn refused(m: Rc6Memory) -> Rc6EventIn
-    ensures { λ r. ⌜ r ≡ eventIn (refused refusal.pastEnd m) ⌝ }
+fn refused(memory: Rc6Memory) -> Rc6EventIn
+    ensures { λ r. ⌜ r ≡ eventIn (refused refusal.pastEnd memory) ⌝ }
 {
-    Rc6EventIn {
-        status: Status::Refused(refusals::PAST_END),
-        memory: m,
-    }
+    let status = Status::Refused(refusals::PAST_END);
+    Rc6EventIn { status, memory }
 }
 
 // What is gathered, with the ticks counted; the clock goes round at 64 bits. The state is read apart.
@@ -360,16 +337,16 @@ fn next_of(m: Rc6Memory, ticks: u64, rising: bool) -> Rc6EventIn
         Rc6State::Idle => event_after(from_idle(counted, rising)),
         Rc6State::Leading => event_after(from_leading(counted, rising, ticks)),
         Rc6State::LeadingPause => event_after(from_leading_pause(counted, rising, ticks)),
-        Rc6State::HeaderData(n) => if n <= 3 {
+        Rc6State::HeaderData(n) => if n <= FIRST_HEADER {
             event_after(from_header_data(n, counted, rising))
         } else {
-            refused(in_header(n, m))
+            refused(in_header(n, m.header, m))
         },
         Rc6State::Trailing => event_after(from_trailing(counted, rising, ticks)),
-        Rc6State::Data(n) => if n <= 15 {
+        Rc6State::Data(n) => if n <= FIRST_DATA {
             event_after(from_data(n, counted, rising))
         } else {
-            refused(in_data(n, m))
+            refused(in_data(n, m.data, m.toggle, m))
         },
         Rc6State::Done => event_after(Rc6Memory {
             state: Rc6State::Done,
@@ -411,14 +388,14 @@ fn no_span(m: Rc6Memory, rising: bool) -> Rc6EventIn
         Rc6State::Idle => event_after(from_idle(cleared, rising)),
         Rc6State::Leading => event_after(from_idle(cleared, rising)),
         Rc6State::LeadingPause => event_after(from_idle(cleared, rising)),
-        Rc6State::HeaderData(n) => if 3 < n {
-            refused(in_header(n, m))
+        Rc6State::HeaderData(n) => if FIRST_HEADER < n {
+            refused(in_header(n, m.header, m))
         } else {
             event_after(from_idle(cleared, rising))
         },
         Rc6State::Trailing => event_after(from_idle(cleared, rising)),
-        Rc6State::Data(n) => if 15 < n {
-            refused(in_data(n, m))
+        Rc6State::Data(n) => if FIRST_DATA < n {
+            refused(in_data(n, m.data, m.toggle, m))
         } else {
             event_after(from_idle(cleared, rising))
         },
@@ -470,24 +447,7 @@ pub fn command_in(m: Rc6Memory) -> Report
     Report::Command(Command::Rc6(Rc6Command::unpack(m.data, m.toggle)))
 }
 
-// The rule of `reports` over what event_in answers.
-fn ruled(event: Rc6EventIn) -> Rc6TotalIn
-    ensures { λ r. ⌜ r ≡ totalIn (ruled machine (event .status) (event .memory)) ⌝ }
-{
-    let status = event.status;
-    let after = event.memory;
-    let report = reports::report_of(status, command_in(after));
-    if reports::resets(status) {
-        let memory = reset_in(after);
-        Rc6TotalIn { report, memory }
-    } else {
-        Rc6TotalIn {
-            report,
-            memory: after,
-        }
-    }
-}
-
+// The rule of `reports` over event_in.
 pub fn total_in<'a>(
     low: &'a [u32; 8],
     high: &'a [u32; 8],
@@ -497,7 +457,17 @@ pub fn total_in<'a>(
 ) -> Rc6TotalIn
     ensures { λ r. ⌜ r ≡ totalIn (total machine (ends (now (low .entry)) (now (high .entry))) m (edge rising duration)) ⌝ }
 {
-    ruled(event_in(low, high, m, rising, duration))
+    let event = event_in(low, high, m, rising, duration);
+    let status = event.status;
+    let after = event.memory;
+    let report = reports::report_of(status, command_in(after));
+    if reports::resets(status) {
+        let memory = reset_in(after);
+        Rc6TotalIn { report, memory }
+    } else {
+        let memory = after;
+        Rc6TotalIn { report, memory }
+    }
 }
 
 impl Rc6Decoder {
@@ -509,10 +479,8 @@ impl Rc6Decoder {
         let answer = made.answer;
         let spans = made.spans;
         let memory = fresh();
-        Rc6Made {
-            answer,
-            decoder: Rc6Decoder { spans, memory },
-        }
+        let decoder = Rc6Decoder { spans, memory };
+        Rc6Made { answer, decoder }
     }
 
     // Refusal 4.
@@ -523,33 +491,23 @@ impl Rc6Decoder {
         let memory = self.memory;
         let event = event_in(&spans.low, &spans.high, memory, rising, duration);
         let status = event.status;
-        let after = event.memory;
-        Rc6Event {
-            status,
-            decoder: Rc6Decoder {
-                spans,
-                memory: after,
-            },
-        }
+        let memory = event.memory;
+        let decoder = Rc6Decoder { spans, memory };
+        Rc6Event { status, decoder }
     }
 
     pub fn command(self) -> Report
         ensures { λ r. ⌜ r ≡ machine .command (self .memory) ⌝ }
     {
-        let memory = self.memory;
-        command_in(memory)
+        command_in(self.memory)
     }
 
     pub fn reset(self) -> Rc6Decoder
         ensures { λ r. ⌜ r ≡ decoderOf (self .spans) (machine .reset (self .memory)) ⌝ }
     {
         let spans = self.spans;
-        let memory = self.memory;
-        let after = reset_in(memory);
-        Rc6Decoder {
-            spans,
-            memory: after,
-        }
+        let memory = reset_in(self.memory);
+        Rc6Decoder { spans, memory }
     }
 
     // Refusal 4.
@@ -560,13 +518,8 @@ impl Rc6Decoder {
         let memory = self.memory;
         let total = total_in(&spans.low, &spans.high, memory, rising, duration);
         let report = total.report;
-        let after = total.memory;
-        Rc6Total {
-            report,
-            decoder: Rc6Decoder {
-                spans,
-                memory: after,
-            },
-        }
+        let memory = total.memory;
+        let decoder = Rc6Decoder { spans, memory };
+        Rc6Total { report, decoder }
     }
 }

@@ -1,2 +1,2 @@
-// Document 01, RC6.
+// The RC6 decoder.
 pub mod decoder;

@@ -1,4 +1,4 @@
--- The frame is the leader, the bits after it, and a closing high where one stands: over what is known of the two calls. Assumes nothing.
+-- The frame is the leader, the bits after it, and a closing high where the last level is high. Assumes nothing.
 use mathlib.Core.Path.{_≡_, ap, ap₂, _∙_}
 use mathlib.Core.Bool.{true, false}
 use mathlib.Core.List.{List, [], _∷_}

@@ -1,4 +1,4 @@
-// Document 01, "Frames": the RC6 encoder. Levels in order, merged as they come.
+// Document 01, "Frames": the RC6 encoder. Levels come in order, and equal neighbours are merged.
 use commands::rc6::Rc6Command;
 use frames::Encoded;
 ghost use mathlib.Core.Path.{_≡_};

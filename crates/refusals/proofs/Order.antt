@@ -1,4 +1,4 @@
--- The refusal number of a call tells which way it goes: 0 is taken, and any other number is the refusal that is answered. By cases on the four tests. Assumes nothing.
+-- The refusal number of a call says which way the call goes: 0 is taken, and any other number is the answer. By cases on the four tests. Assumes nothing.
 use mathlib.Core.Path.{_≡_, refl, sym, ap, _∙_}
 use mathlib.Core.Bool.{Bool, true, false, cond}
 use Prim.Native.Nat.{ℕ}

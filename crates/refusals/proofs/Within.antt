@@ -1,4 +1,4 @@
--- What two tests that both hold tell, and so what `within` tells of its numbers. Assumes nothing.
+-- What `within` says of its numbers: both of its tests hold. Assumes nothing.
 use mathlib.Core.Path.{_≡_}
 use mathlib.Core.Bool.{Bool, true, false, _&&_}
 use Prim.Native.Nat.{ℕ, _≤_}

@@ -1,4 +1,4 @@
-// Document 01, "Refusal numbers": the numbers by name, which protocol numbers and which rates are taken, and the order in which they are tested.
+// Document 01, "Refusal numbers": the numbers by name, which protocol numbers and rates are taken, and the order of the tests.
 ghost use mathlib.Core.Path.{_≡_};
 ghost use Rattle.refusals.specs.Refusals.{none, within, protocolTaken, encodeTaken, rateTaken, inOrder, buildTests};
 

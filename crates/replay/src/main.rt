@@ -1,12 +1,10 @@
 // Reads calls, one to a line, from standard input and prints the answer to each, a line.
-// The calls and their answers are listed in README.md, "The call language".
+// docs/CALLS.md lists the calls and their answers.
 mod on_frames;
 mod on_spans;
 
 use calls::call_of;
 use calls::call_text::put_answer;
-use calls::on_slots::CallAnswer;
-use calls::on_slots::Slots;
 use calls::on_slots::all_closed;
 use calls::on_slots::answered;
 use libc::STDERR_FILENO;
@@ -14,6 +12,7 @@ use libc::STDIN_FILENO;
 use libc::STDOUT_FILENO;
 use on_frames::put_encode_call;
 use on_spans::put_spans_call;
+use slots::Parts;
 use text::put;
 use words::Line;
 use words::fresh;
@@ -33,12 +32,6 @@ pub struct Reading {
     pub input: Input,
 }
 
-// All that is held between lines: the place in the text that gathers the answers, and the slots.
-pub struct State {
-    pub at: usize,
-    pub slots: Slots,
-}
-
 // Writes out what has gathered, once little room is left for the next answer. Where the output takes no more, the place is past the text from then on.
 fn flushed(text: &[u8], at: usize, room: usize) -> usize {
     if at <= text.len() {
@@ -52,35 +45,21 @@ fn flushed(text: &[u8], at: usize, room: usize) -> usize {
     at
 }
 
-fn put_call_answer(
-    text: &mut [u8],
-    at: usize,
-    call: usize,
-    n: &[u64; 8],
-    answer: CallAnswer,
-) -> usize {
+fn put_call_answer(text: &mut [u8], at: usize, call: usize, n: &[u64; 8], parts: Parts) -> usize {
     if call == calls::SPANS {
         return put_spans_call(text, at, n[0], n[1]);
     }
     if call == calls::ENCODE {
         return put_encode_call(text, at, n);
     }
-    put_answer(text, at, answer)
+    put_answer(text, at, parts)
 }
 
-// A line's call is answered.
-fn line_answered(text: &mut [u8], state: State, line: Line, n: &[u64; 8]) -> State {
-    let slots = state.slots;
-    let call = call_of(line, n);
-    let both = answered(call, n, slots);
-    let answer = both.answer;
-    let after = both.slots;
-    let next = put_call_answer(text, state.at, call, n, answer);
+// A line of output.
+fn put_line(text: &mut [u8], at: usize, call: usize, n: &[u64; 8], parts: Parts) -> usize {
+    let next = put_call_answer(text, at, call, n, parts);
     let next = put(text, next, b'\n');
-    State {
-        at: flushed(text, next, 4096),
-        slots: after,
-    }
+    flushed(text, next, 4096)
 }
 
 // The next byte; where none is left, more is read first.
@@ -133,15 +112,13 @@ fn read_line(buf: &mut [u8], start: Input, numbers: &mut [u64; 8]) -> Reading {
 
 // Nothing is left to answer; a last line may lack its newline.
 fn is_over(line: Line, is_end: bool) -> bool {
-    is_end && !is_begun(line)
+    is_end & !is_begun(line)
 }
 
 // To the end of the input, or until the output takes no more.
 fn read_all(text: &mut [u8], numbers: &mut [u64; 8], buf: &mut [u8]) -> usize {
-    let mut state = State {
-        at: 0,
-        slots: all_closed(),
-    };
+    let mut at: usize = 0;
+    let mut slots = all_closed();
     let mut input = Input {
         at: 0,
         end: 0,
@@ -154,18 +131,18 @@ fn read_all(text: &mut [u8], numbers: &mut [u64; 8], buf: &mut [u8]) -> usize {
         let line = reading.line;
         input = reading.input;
         if is_over(line, input.is_end) {
-            return state.at;
+            return at;
         }
-        state = line_answered(text, state, line, numbers);
-        if text.len() < state.at {
-            return state.at;
-        }
-        if input.is_end {
-            return state.at;
+        let call = call_of(line, numbers);
+        slots = answered(call, numbers, slots);
+        let parts = slots.parts;
+        at = put_line(text, at, call, numbers, parts);
+        if (text.len() < at) | input.is_end {
+            return at;
         }
         left -= 1;
     }
-    state.at
+    at
 }
 
 // Writes out what is left, and says so where answers are lost.

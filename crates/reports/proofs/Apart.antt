@@ -1,4 +1,4 @@
--- The numbers of a status and of a report tell it from every other one, and so do those of a list of reports: each is read back from its numbers. Assumes nothing.
+-- A status, a report and a list of reports can be read back from their numbers, so no two share them. Assumes nothing.
 use mathlib.Core.Path.{_≡_, refl, sym, ap, ap₂, _∙_}
 use mathlib.Core.Bool.{cond}
 use mathlib.Core.List.{List, [], _∷_, map}

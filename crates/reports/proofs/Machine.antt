@@ -1,6 +1,6 @@
--- Laws of any machine. Of an edge: one that is refused leaves all as it was, one that is taken is the step and the rule after it. Of a run, by
--- induction on its edges: two lists joined are the run of one and then of the other, there is a report for each edge, what each edge keeps a run
--- keeps, and two machines that answer each edge alike answer a run alike. Assumes nothing.
+-- Laws of any machine. An edge that is refused changes nothing; any other edge is the step and the rule after it.
+-- Laws of a run, by induction on its edges: two lists joined are one run after the other; there is a report for each edge; what each edge keeps, a run keeps;
+-- two machines that answer each edge alike answer a run alike. Assumes nothing.
 use mathlib.Core.Path.{_≡_, refl, ap}
 use mathlib.Core.Bool.{Bool, true, false, cond}
 use mathlib.Core.List.{List, [], _∷_, _++_}

@@ -1,5 +1,5 @@
 -- Document 01, "Decoder steps": a decoder of any protocol. A protocol gives its own rules as one `Machine`. What `event` and `event_total` answer and leave, and
--- a run of edges, are said here once, over any machine. Spans never change: they are lent to each step.
+-- a run of edges, are said here once, over any machine. Spans are lent to each step and never change.
 use Prim.Native.Nat.{ℕ, _+_}
 use mathlib.Core.Path.{_≡_}
 use mathlib.Core.Bool.{Bool, cond}

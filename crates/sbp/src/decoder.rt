@@ -7,13 +7,28 @@ use reports::Status;
 use spans::Answer;
 use spans::Spans;
 ghost use mathlib.Core.Path.{_≡_};
-ghost use Prim.Native.Nat.{_<_};
-ghost use Rattle.sbp.specs.declared.decoder.SbpState.the-variants.{Init, Error};
+ghost use Rattle.sbp.specs.declared.decoder.SbpState.the-variants as state;
 ghost use Rattle.refusals.specs.Refusals as refusal;
 ghost use Rattle.spans.specs.Spans.{ends, spansOf};
 ghost use Rattle.reports.specs.Edges.{edge};
-ghost use Rattle.reports.specs.Machine.{refused, eventAfter, answered, event, ruled, total};
-ghost use Rattle.sbp.specs.Decoder.{pastEnd, memoryOf, fromInit, fromAddress, fromDivider, fromCommand, nextOf, withSaved, machine, eventIn, totalIn, decoderOf, eventOf, totalOf, madeOf};
+ghost use Rattle.reports.specs.Machine.{refused, eventAfter, answered, event, total};
+ghost use Rattle.sbp.specs.Decoder.{pastEnd, memoryOf, fromAddress, fromCommand, nextOf, withSaved, machine, eventIn, totalIn, decoderOf, eventOf, totalOf, madeOf};
+
+// Places of the spans, and none of them.
+const SYNC: u32 = 0;
+
+const PAUSE: u32 = 1;
+
+const ZERO: u32 = 2;
+
+const ONE: u32 = 3;
+
+const NONE: u32 = 8;
+
+// The last bits of address and command.
+const LAST_ADDRESS: u16 = 15;
+
+const LAST_COMMAND: u16 = 19;
 
 pub enum SbpState {
     Init,
@@ -70,265 +85,163 @@ pub fn past_end(m: SbpMemory) -> bool
     let state = m.state;
     match state {
         SbpState::Init => false,
-        SbpState::Address(n) => 15 < n,
+        SbpState::Address(n) => LAST_ADDRESS < n,
         SbpState::Divider => false,
-        SbpState::Command(n) => 19 < n,
+        SbpState::Command(n) => LAST_COMMAND < n,
         SbpState::Done => false,
         SbpState::Error(_) => false,
     }
 }
 
-fn waiting(address: u16, command: u32, saved: u32) -> SbpMemory
-    ensures { λ r. ⌜ r ≡ memoryOf Init address command saved ⌝ }
+// One answer for each state, with its status. The memory is made anew beside it: so it stays in registers.
+fn init(address: u16, command: u32, saved: u32) -> SbpEventIn
+    ensures { λ r. ⌜ r ≡ eventIn (eventAfter machine (memoryOf state.Init address command saved)) ⌝ }
 {
-    SbpMemory {
+    let status = Status::Idle;
+    let memory = SbpMemory {
         state: SbpState::Init,
         address,
         command,
         saved,
-    }
+    };
+    SbpEventIn { status, memory }
 }
 
-fn failed(fault: Fault, address: u16, command: u32, saved: u32) -> SbpMemory
-    ensures { λ r. ⌜ r ≡ memoryOf (Error fault) address command saved ⌝ }
+fn receiving_address(n: u16, address: u16, command: u32, saved: u32) -> SbpEventIn
+    ensures { λ r. ⌜ r ≡ eventIn (eventAfter machine (memoryOf (state.Address n) address command saved)) ⌝ }
 {
-    SbpMemory {
+    let status = Status::Receiving;
+    let memory = SbpMemory {
+        state: SbpState::Address(n),
+        address,
+        command,
+        saved,
+    };
+    SbpEventIn { status, memory }
+}
+
+fn divider(address: u16, command: u32, saved: u32) -> SbpEventIn
+    ensures { λ r. ⌜ r ≡ eventIn (eventAfter machine (memoryOf state.Divider address command saved)) ⌝ }
+{
+    let status = Status::Receiving;
+    let memory = SbpMemory {
+        state: SbpState::Divider,
+        address,
+        command,
+        saved,
+    };
+    SbpEventIn { status, memory }
+}
+
+fn receiving_command(n: u16, address: u16, command: u32, saved: u32) -> SbpEventIn
+    ensures { λ r. ⌜ r ≡ eventIn (eventAfter machine (memoryOf (state.Command n) address command saved)) ⌝ }
+{
+    let status = Status::Receiving;
+    let memory = SbpMemory {
+        state: SbpState::Command(n),
+        address,
+        command,
+        saved,
+    };
+    SbpEventIn { status, memory }
+}
+
+fn done(address: u16, command: u32, saved: u32) -> SbpEventIn
+    ensures { λ r. ⌜ r ≡ eventIn (eventAfter machine (memoryOf state.Done address command saved)) ⌝ }
+{
+    let status = Status::Done;
+    let memory = SbpMemory {
+        state: SbpState::Done,
+        address,
+        command,
+        saved,
+    };
+    SbpEventIn { status, memory }
+}
+
+fn failed(fault: Fault, address: u16, command: u32, saved: u32) -> SbpEventIn
+    ensures { λ r. ⌜ r ≡ eventIn (eventAfter machine (memoryOf (state.Error fault) address command saved)) ⌝ }
+{
+    let status = Status::Error(fault);
+    let memory = SbpMemory {
         state: SbpState::Error(fault),
         address,
         command,
         saved,
-    }
+    };
+    SbpEventIn { status, memory }
 }
 
-// A pulse gives a memory made anew in each arm: made so, it stays in registers. The saved duration is kept, unlike NEC's and Denon's.
-fn from_init(place: u32, address: u16, command: u32, saved: u32) -> SbpMemory
-    ensures { λ r. ⌜ r ≡ fromInit place address command saved ⌝ }
+fn refused(memory: SbpMemory) -> SbpEventIn
+    ensures { λ r. ⌜ r ≡ eventIn (refused refusal.pastEnd memory) ⌝ }
 {
-    match place {
-        // sync
-        0 => SbpMemory {
-            state: SbpState::Address(0),
-            address,
-            command,
-            saved,
-        },
-        _ => waiting(address, command, saved),
-    }
+    let status = Status::Refused(refusals::PAST_END);
+    SbpEventIn { status, memory }
 }
 
-fn from_address(n: u16, place: u32, address: u16, command: u32, saved: u32) -> SbpMemory
-    requires { ⌜ n < 15 ⌝ }
-    ensures { λ r. ⌜ r ≡ fromAddress n place address command saved ⌝ }
+// Lowest first; the last bit ends the address.
+fn address_bit(n: u16, place: u32, address: u16, command: u32, saved: u32) -> SbpEventIn
+    ensures { λ r. ⌜ r ≡ eventIn (answered machine (memoryOf (state.Address n) address command saved) (fromAddress n place address command saved)) ⌝ }
 {
-    match place {
-        // zero
-        2 => SbpMemory {
-            state: SbpState::Address(n + 1),
-            address,
-            command,
-            saved,
-        },
-        // one
-        3 => SbpMemory {
-            state: SbpState::Address(n + 1),
-            address: address | (1 << n),
-            command,
-            saved,
-        },
-        _ => failed(Fault::Address, address, command, saved), // a bad pulse
+    if n < LAST_ADDRESS {
+        match place {
+            ONE => receiving_address(n + 1, address | (1 << n), command, saved),
+            ZERO => receiving_address(n + 1, address, command, saved),
+            _ => failed(Fault::Address, address, command, saved), // a bad pulse
+        }
+    } else if n == LAST_ADDRESS {
+        match place {
+            ONE => divider(address | (1 << LAST_ADDRESS), command, saved),
+            ZERO => divider(address, command, saved),
+            _ => failed(Fault::Address, address, command, saved),
+        }
+    } else {
+        refused(receiving_address(n, address, command, saved).memory)
     }
 }
 
-// Bit 15 ends the address.
-fn from_last_address(place: u32, address: u16, command: u32, saved: u32) -> SbpMemory
-    ensures { λ r. ⌜ r ≡ fromAddress 15 place address command saved ⌝ }
+// Lowest first; the last bit ends the frame.
+fn command_bit(n: u16, place: u32, address: u16, command: u32, saved: u32) -> SbpEventIn
+    ensures { λ r. ⌜ r ≡ eventIn (answered machine (memoryOf (state.Command n) address command saved) (fromCommand n place address command saved)) ⌝ }
 {
-    match place {
-        // zero
-        2 => SbpMemory {
-            state: SbpState::Divider,
-            address,
-            command,
-            saved,
-        },
-        // one
-        3 => SbpMemory {
-            state: SbpState::Divider,
-            address: address | 0x8000,
-            command,
-            saved,
-        },
-        _ => failed(Fault::Address, address, command, saved),
+    if n < LAST_COMMAND {
+        match place {
+            ONE => receiving_command(n + 1, address, command | (1 << n), saved),
+            ZERO => receiving_command(n + 1, address, command, saved),
+            _ => failed(Fault::Data, address, command, saved),
+        }
+    } else if n == LAST_COMMAND {
+        match place {
+            ONE => done(address, command | (1 << LAST_COMMAND), saved),
+            ZERO => done(address, command, saved),
+            _ => failed(Fault::Data, address, command, saved),
+        }
+    } else {
+        refused(receiving_command(n, address, command, saved).memory)
     }
 }
 
-fn from_divider(place: u32, address: u16, command: u32, saved: u32) -> SbpMemory
-    ensures { λ r. ⌜ r ≡ fromDivider place address command saved ⌝ }
-{
-    match place {
-        // pause
-        1 => SbpMemory {
-            state: SbpState::Command(0),
-            address,
-            command,
-            saved,
-        },
-        _ => failed(Fault::Data, address, command, saved),
-    }
-}
-
-fn from_command(n: u16, place: u32, address: u16, command: u32, saved: u32) -> SbpMemory
-    requires { ⌜ n < 19 ⌝ }
-    ensures { λ r. ⌜ r ≡ fromCommand n place address command saved ⌝ }
-{
-    match place {
-        // zero
-        2 => SbpMemory {
-            state: SbpState::Command(n + 1),
-            address,
-            command,
-            saved,
-        },
-        // one
-        3 => SbpMemory {
-            state: SbpState::Command(n + 1),
-            address,
-            command: command | (1 << n),
-            saved,
-        },
-        _ => failed(Fault::Data, address, command, saved),
-    }
-}
-
-// Bit 19 ends the frame.
-fn from_last_command(place: u32, address: u16, command: u32, saved: u32) -> SbpMemory
-    ensures { λ r. ⌜ r ≡ fromCommand 19 place address command saved ⌝ }
-{
-    match place {
-        // zero
-        2 => SbpMemory {
-            state: SbpState::Done,
-            address,
-            command,
-            saved,
-        },
-        // one
-        3 => SbpMemory {
-            state: SbpState::Done,
-            address,
-            command: command | 0x8_0000,
-            saved,
-        },
-        _ => failed(Fault::Data, address, command, saved),
-    }
-}
-
-// The same state, address and command with another saved number.
-fn with_saved(m: SbpMemory, saved: u32) -> SbpMemory
-    ensures { λ r. ⌜ r ≡ withSaved m saved ⌝ }
-{
-    let state = m.state;
-    let address = m.address;
-    let command = m.command;
-    match state {
-        SbpState::Init => waiting(address, command, saved),
-        SbpState::Address(n) => SbpMemory {
-            state: SbpState::Address(n),
-            address,
-            command,
-            saved,
-        },
-        SbpState::Divider => SbpMemory {
-            state: SbpState::Divider,
-            address,
-            command,
-            saved,
-        },
-        SbpState::Command(n) => SbpMemory {
-            state: SbpState::Command(n),
-            address,
-            command,
-            saved,
-        },
-        SbpState::Done => SbpMemory {
-            state: SbpState::Done,
-            address,
-            command,
-            saved,
-        },
-        SbpState::Error(fault) => failed(fault, address, command, saved),
-    }
-}
-
-fn event_after(m: SbpMemory) -> SbpEventIn
-    ensures { λ r. ⌜ r ≡ eventIn (eventAfter machine m) ⌝ }
-{
-    let state = m.state;
-    match state {
-        SbpState::Init => SbpEventIn {
-            status: Status::Idle,
-            memory: m,
-        },
-        SbpState::Address(_) => SbpEventIn {
-            status: Status::Receiving,
-            memory: m,
-        },
-        SbpState::Divider => SbpEventIn {
-            status: Status::Receiving,
-            memory: m,
-        },
-        SbpState::Command(_) => SbpEventIn {
-            status: Status::Receiving,
-            memory: m,
-        },
-        SbpState::Done => SbpEventIn {
-            status: Status::Done,
-            memory: m,
-        },
-        SbpState::Error(fault) => SbpEventIn {
-            status: Status::Error(fault),
-            memory: m,
-        },
-    }
-}
-
-fn refused(m: SbpMemory) -> SbpEventIn
-    ensures { λ r. ⌜ r ≡ eventIn (refused refusal.pastEnd m) ⌝ }
-{
-    SbpEventIn {
-        status: Status::Refused(refusals::PAST_END),
-        memory: m,
-    }
-}
-
-// A pulse at a rising edge.
+// A pulse at a rising edge. The saved duration is kept, unlike NEC's and Denon's.
 fn next_of(m: SbpMemory, place: u32) -> SbpEventIn
     ensures { λ r. ⌜ r ≡ eventIn (answered machine m (nextOf (m .state) place (m .address) (m .command) (m .saved))) ⌝ }
 {
     let state = m.state;
+    let address = m.address;
+    let command = m.command;
+    let saved = m.saved;
     match state {
-        SbpState::Init => event_after(from_init(place, m.address, m.command, m.saved)),
-        SbpState::Address(n) => {
-            if n < 15 {
-                event_after(from_address(n, place, m.address, m.command, m.saved))
-            } else if n == 15 {
-                event_after(from_last_address(place, m.address, m.command, m.saved))
-            } else {
-                refused(m)
-            }
-        }
-        SbpState::Divider => event_after(from_divider(place, m.address, m.command, m.saved)),
-        SbpState::Command(n) => {
-            if n < 19 {
-                event_after(from_command(n, place, m.address, m.command, m.saved))
-            } else if n == 19 {
-                event_after(from_last_command(place, m.address, m.command, m.saved))
-            } else {
-                refused(m)
-            }
-        }
-        SbpState::Done => event_after(with_saved(m, m.saved)),
-        SbpState::Error(_) => event_after(with_saved(m, m.saved)),
+        SbpState::Init => match place {
+            SYNC => receiving_address(0, address, command, saved),
+            _ => init(address, command, saved),
+        },
+        SbpState::Address(n) => address_bit(n, place, address, command, saved),
+        SbpState::Divider => match place {
+            PAUSE => receiving_command(0, address, command, saved),
+            _ => failed(Fault::Data, address, command, saved),
+        },
+        SbpState::Command(n) => command_bit(n, place, address, command, saved),
+        SbpState::Done => done(address, command, saved),
+        SbpState::Error(fault) => failed(fault, address, command, saved),
     }
 }
 
@@ -337,25 +250,23 @@ fn save(m: SbpMemory, duration: u32) -> SbpEventIn
     ensures { λ r. ⌜ r ≡ eventIn (answered machine m (withSaved m duration)) ⌝ }
 {
     let state = m.state;
+    let address = m.address;
+    let command = m.command;
     match state {
-        SbpState::Init => event_after(with_saved(m, duration)),
-        SbpState::Address(n) => {
-            if n <= 15 {
-                event_after(with_saved(m, duration))
-            } else {
-                refused(m)
-            }
-        }
-        SbpState::Divider => event_after(with_saved(m, duration)),
-        SbpState::Command(n) => {
-            if n <= 19 {
-                event_after(with_saved(m, duration))
-            } else {
-                refused(m)
-            }
-        }
-        SbpState::Done => event_after(with_saved(m, duration)),
-        SbpState::Error(_) => event_after(with_saved(m, duration)),
+        SbpState::Init => init(address, command, duration),
+        SbpState::Address(n) => if n <= LAST_ADDRESS {
+            receiving_address(n, address, command, duration)
+        } else {
+            refused(m)
+        },
+        SbpState::Divider => divider(address, command, duration),
+        SbpState::Command(n) => if n <= LAST_COMMAND {
+            receiving_command(n, address, command, duration)
+        } else {
+            refused(m)
+        },
+        SbpState::Done => done(address, command, duration),
+        SbpState::Error(fault) => failed(fault, address, command, duration),
     }
 }
 
@@ -363,15 +274,10 @@ fn save(m: SbpMemory, duration: u32) -> SbpEventIn
 pub fn fresh() -> SbpMemory
     ensures { λ r. ⌜ r ≡ machine .fresh ⌝ }
 {
-    SbpMemory {
-        state: SbpState::Init,
-        address: 0,
-        command: 0,
-        saved: 0,
-    }
+    init(0, 0, 0).memory
 }
 
-// One call by place that SBP names, 8 for none of these: each place of the lookup goes on to its own arm. The sum is exact: no span holds one above 32 bits.
+// One call by place that SBP names: each place of the lookup goes on to its own arm. The sum is exact: no span holds one above 32 bits.
 pub fn event_in<'a>(
     low: &'a [u32; 8],
     high: &'a [u32; 8],
@@ -384,11 +290,11 @@ pub fn event_in<'a>(
     if rising {
         let total = m.saved as u64 + duration as u64;
         match spans::place_of(spans::lookup_in(low, high, total)) {
-            0 => next_of(m, 0),
-            1 => next_of(m, 1),
-            2 => next_of(m, 2),
-            3 => next_of(m, 3),
-            _ => next_of(m, 8),
+            SYNC => next_of(m, SYNC),
+            PAUSE => next_of(m, PAUSE),
+            ZERO => next_of(m, ZERO),
+            ONE => next_of(m, ONE),
+            _ => next_of(m, NONE),
         }
     } else {
         save(m, duration)
@@ -409,22 +315,25 @@ pub fn reset_in(m: SbpMemory) -> SbpMemory
     fresh()
 }
 
-// The rule of `reports` over what event_in answers. What is kept is made anew, so that it stays in registers.
-fn ruled(event: SbpEventIn) -> SbpTotalIn
-    ensures { λ r. ⌜ r ≡ totalIn (ruled machine (event .status) (event .memory)) ⌝ }
+// The same memory made anew: so it stays in registers.
+fn again(m: SbpMemory) -> SbpMemory
+    ensures { λ r. ⌜ r ≡ m ⌝ }
 {
-    let status = event.status;
-    let after = event.memory;
-    let report = reports::report_of(status, command_in(after));
-    if reports::resets(status) {
-        let memory = reset_in(after);
-        SbpTotalIn { report, memory }
-    } else {
-        let memory = with_saved(after, after.saved);
-        SbpTotalIn { report, memory }
+    let state = m.state;
+    let address = m.address;
+    let command = m.command;
+    let saved = m.saved;
+    match state {
+        SbpState::Init => init(address, command, saved).memory,
+        SbpState::Address(n) => receiving_address(n, address, command, saved).memory,
+        SbpState::Divider => divider(address, command, saved).memory,
+        SbpState::Command(n) => receiving_command(n, address, command, saved).memory,
+        SbpState::Done => done(address, command, saved).memory,
+        SbpState::Error(fault) => failed(fault, address, command, saved).memory,
     }
 }
 
+// The rule of `reports` over event_in.
 pub fn total_in<'a>(
     low: &'a [u32; 8],
     high: &'a [u32; 8],
@@ -434,7 +343,17 @@ pub fn total_in<'a>(
 ) -> SbpTotalIn
     ensures { λ r. ⌜ r ≡ totalIn (total machine (ends (now (low .entry)) (now (high .entry))) m (edge rising duration)) ⌝ }
 {
-    ruled(event_in(low, high, m, rising, duration))
+    let event = event_in(low, high, m, rising, duration);
+    let status = event.status;
+    let after = event.memory;
+    let report = reports::report_of(status, command_in(after));
+    if reports::resets(status) {
+        let memory = reset_in(after);
+        SbpTotalIn { report, memory }
+    } else {
+        let memory = again(after);
+        SbpTotalIn { report, memory }
+    }
 }
 
 impl SbpDecoder {
@@ -446,10 +365,8 @@ impl SbpDecoder {
         let answer = made.answer;
         let spans = made.spans;
         let memory = fresh();
-        SbpMade {
-            answer,
-            decoder: SbpDecoder { spans, memory },
-        }
+        let decoder = SbpDecoder { spans, memory };
+        SbpMade { answer, decoder }
     }
 
     // Refusal 4.
@@ -460,33 +377,24 @@ impl SbpDecoder {
         let memory = self.memory;
         let event = event_in(&spans.low, &spans.high, memory, rising, duration);
         let status = event.status;
-        let after = event.memory;
-        SbpEvent {
-            status,
-            decoder: SbpDecoder {
-                spans: spans::again(spans),
-                memory: after,
-            },
-        }
+        let memory = event.memory;
+        let spans = spans::again(spans);
+        let decoder = SbpDecoder { spans, memory };
+        SbpEvent { status, decoder }
     }
 
     pub fn command(self) -> Report
         ensures { λ r. ⌜ r ≡ machine .command (self .memory) ⌝ }
     {
-        let memory = self.memory;
-        command_in(memory)
+        command_in(self.memory)
     }
 
     pub fn reset(self) -> SbpDecoder
         ensures { λ r. ⌜ r ≡ decoderOf (self .spans) (machine .reset (self .memory)) ⌝ }
     {
         let spans = self.spans;
-        let memory = self.memory;
-        let after = reset_in(memory);
-        SbpDecoder {
-            spans,
-            memory: after,
-        }
+        let memory = reset_in(self.memory);
+        SbpDecoder { spans, memory }
     }
 
     // Refusal 4.
@@ -497,13 +405,9 @@ impl SbpDecoder {
         let memory = self.memory;
         let total = total_in(&spans.low, &spans.high, memory, rising, duration);
         let report = total.report;
-        let after = total.memory;
-        SbpTotal {
-            report,
-            decoder: SbpDecoder {
-                spans: spans::again(spans),
-                memory: after,
-            },
-        }
+        let memory = total.memory;
+        let spans = spans::again(spans);
+        let decoder = SbpDecoder { spans, memory };
+        SbpTotal { report, decoder }
     }
 }

@@ -1,2 +1,2 @@
-// Document 01, SBP.
+// The SBP decoder.
 pub mod decoder;

@@ -1,4 +1,4 @@
--- A room of 67 places is never too short, whatever the command: `SEAT_LONGEST` of the C header. By the law of length of `protocols`. Assumes nothing.
+-- A room of 67 places is never too short, whatever the command: `SEAT_LONGEST` of the C header. By the law of `protocols`. Assumes nothing.
 use mathlib.Core.Path.{_≡_, refl}
 use mathlib.Core.Bool.{Bool, true, false, cond}
 use mathlib.Core.List.{List}

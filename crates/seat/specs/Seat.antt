@@ -1,6 +1,6 @@
 -- Document 01, "What must change shape": seat firmware in C "calls encoding and lookup over plain numbers and slices".
--- Encoding is `protocols`', by number. Here stands what a lookup returns, 0 or document 01's refusal number, and what each call leaves in the number
--- that it is lent. With refusals 2 and 1 that is what it held: "nothing built or written".
+-- Encoding by number is in `protocols`. Here stands what a lookup returns, 0 or document 01's refusal number, and what each call leaves in the number
+-- that it is lent. Refusals 2 and 1 leave what it held: "nothing built or written".
 use Prim.Native.Nat.{ℕ}
 use Rattle.spans.specs.Spans.{spansOf, refusalNumber}
 use Rattle.spans.specs.Lookup.{lookupOf, placeOf}

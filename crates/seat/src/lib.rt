@@ -1,4 +1,4 @@
-// What seat firmware in C calls: encoding and lookup over plain numbers and slices. include/dorzhimu_seat.h has the prototypes and the caller's duties.
+// What seat firmware in C calls: encoding and lookup over plain numbers and slices. include/dorzhimu_seat.h has the prototypes and what the caller owes.
 // Each call returns 0 or document 01's refusal number, and stores its result in a number that the caller lends. Refusals 2 and 1 store nothing.
 use frames::Encoded;
 use spans::Answer;

@@ -4,6 +4,8 @@ use Rattle.slots.proofs.closed as closed
 use Rattle.slots.proofs.opened as opened
 use Rattle.slots.proofs.asked as asked
 use Rattle.slots.proofs.head_of as head-of
+use Rattle.slots.proofs.send.alone as alone
+use Rattle.slots.proofs.send.send as send
 
 closed-fixed : Fixed closed.ended (λ M. closed.clauses) closed.Symbol.routine
 closed-fixed M 𝓤 H 𝓜 𝓖 𝓡 = (closed.Met.met 𝓤 H 𝓜 𝓖 𝓡, λ κs a. asks-nothing 𝓤, λ κs a g h r s v w. both one one alike)
@@ -16,3 +18,9 @@ asked-fixed M 𝓤 H 𝓜 𝓖 𝓡 = (asked.Met.met 𝓤 H 𝓜 𝓖 𝓡, λ �
 
 head-of-fixed : Fixed head-of.ended (λ M. head-of.clauses) head-of.Symbol.routine
 head-of-fixed M 𝓤 H 𝓜 𝓖 𝓡 = (head-of.Met.met 𝓤 H 𝓜 𝓖 𝓡, λ κs a. asks-nothing 𝓤, λ κs a g h r s v w. both one one alike)
+
+alone-fixed : Fixed alone.ended (λ M. alone.clauses) alone.Symbol.routine
+alone-fixed M 𝓤 H 𝓜 𝓖 𝓡 = (alone.Met.met 𝓤 H 𝓜 𝓖 𝓡, λ κs a. asks-nothing 𝓤, λ κs a g h r s v w. both one one alike)
+
+send-fixed : Fixed send.ended (λ M. send.clauses) send.Symbol.routine
+send-fixed M 𝓤 H 𝓜 𝓖 𝓡 = (send.Met.met 𝓤 H 𝓜 𝓖 𝓡, λ κs a. asks-nothing 𝓤, λ κs a g h r s v w. both one one alike)

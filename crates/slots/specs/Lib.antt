@@ -1,1 +1,3 @@
+pub mod Counters
 pub mod Slots
+pub mod Send

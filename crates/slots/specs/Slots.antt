@@ -1,4 +1,4 @@
--- What the calls of README's "The call language" on a slot do and answer.
+-- What the calls of docs/CALLS.md on a slot do and answer.
 use Prim.Native.Nat.{ℕ, zero, suc}
 use mathlib.Core.Bool.{Bool, true, false, cond}
 use mathlib.Core.List.{[], _∷_}
@@ -7,11 +7,14 @@ use Rattle.reports.specs.declared.Report.the-variants as report
 use Rattle.reports.specs.Edges.{edge}
 use Rattle.protocols.specs.Decoder.{machine, decoderOf, edgeEvent, edgeTotal}
 use Rattle.protocols.specs.declared.decoder.Decoder.{Decoder}
+use Rattle.protocols.specs.declared.decoder.Event.{Event}
+use Rattle.protocols.specs.declared.decoder.Total.{Total}
 use Rattle.polled.specs.Polled.{polledAt, pollOf, idled}
 use Rattle.polled.specs.declared.Polled.{Polled}
 use Rattle.polled.specs.declared.PolledMade.{PolledMade}
 use Rattle.answers.specs.Answers.{word, textOf, statusPhrase, reportPhrase, answerPhrase, isTaken, notOpen}
 use Rattle.answers.specs.declared.Phrase.{Phrase}
+use Rattle.slots.specs.Counters.{counting}
 use Rattle.slots.specs.declared.Slot.{Slot}
 use Rattle.slots.specs.declared.SlotAnswer.{SlotAnswer}
 use Rattle.slots.specs.declared.Head.{Head}
@@ -39,15 +42,18 @@ openedBy slot made =
 abbrev pub openedAt : Slot → ℕ → ℕ → SlotAnswer
 openedAt slot protocol rate = openedBy slot (polledAt protocol rate)
 
+-- after a step, and after event_total
+abbrev pub steppedBy : Polled → Event → SlotAnswer
+steppedBy p e = heldBy (statusPhrase (e .status)) (withDecoder p (e .decoder))
+
+abbrev pub heardBy : Polled → Total → SlotAnswer
+heardBy p t = heldBy (reportPhrase (t .report)) (withDecoder p (t .decoder))
+
 abbrev pub eventAt : Polled → Bool → ℕ → SlotAnswer
-eventAt p rising duration =
-    let e = edgeEvent (p .decoder) (edge rising duration) in
-    heldBy (statusPhrase (e .status)) (withDecoder p (e .decoder))
+eventAt p rising duration = steppedBy p (edgeEvent (p .decoder) (edge rising duration))
 
 abbrev pub totalAt : Polled → Bool → ℕ → SlotAnswer
-totalAt p rising duration =
-    let t = edgeTotal (p .decoder) (edge rising duration) in
-    heldBy (reportPhrase (t .report)) (withDecoder p (t .decoder))
+totalAt p rising duration = heardBy p (edgeTotal (p .decoder) (edge rising duration))
 
 abbrev pub commandAt : Polled → SlotAnswer
 commandAt p = heldBy (reportPhrase (machine .command (p .decoder .memory))) p
@@ -84,7 +90,12 @@ pollsAt p level count =
 abbrev pub idleAt : Polled → ℕ → SlotAnswer
 idleAt p count = heldBy (textOf (word ("i" ∷ "d" ∷ "l" ∷ "e" ∷ [])) 0) (idled p count)
 
--- a call on an open slot; the number is a duration or a count
+-- the bit counter is set; the last of a protocol's counters, or the first
+abbrev pub counterAt : Polled → Bool → ℕ → SlotAnswer
+counterAt p last number =
+    heldBy (textOf (word ("c" ∷ "o" ∷ "u" ∷ "n" ∷ "t" ∷ "e" ∷ "r" ∷ [])) 0) (withDecoder p (counting (p .decoder) last number))
+
+-- a call on an open slot; the number is a duration, a count of polls, or that of a bit
 abbrev pub askedIn : Ask → Polled → Bool → ℕ → SlotAnswer
 askedIn ask.Event p level number = eventAt p level number
 askedIn ask.Total p level number = totalAt p level number
@@ -92,6 +103,7 @@ askedIn ask.Command p level number = commandAt p
 askedIn ask.Reset p level number = resetAt p
 askedIn ask.Poll p level number = pollsAt p level number
 askedIn ask.Idle p level number = idleAt p number
+askedIn ask.Counter p level number = counterAt p level number
 
 abbrev pub askedAt : Ask → Slot → Bool → ℕ → SlotAnswer
 askedAt ask slot level number =
@@ -101,4 +113,4 @@ askedAt ask slot level number =
 abbrev pub headOf : Slot → Bool → ℕ → Head
 headOf slot rising duration =
     let stepped = askedAt ask.Event slot rising duration in
-    record { status = stepped .phrase; command = askedAt ask.Command (stepped .slot) rising duration .phrase }
+    record { first = stepped .phrase; second = askedAt ask.Command (stepped .slot) rising duration .phrase }

@@ -1,4 +1,7 @@
 // A slot that holds a polled receiver or only its decoder, and what the calls on it do and answer.
+mod counters;
+pub mod send;
+
 use answers::Phrase;
 use answers::is_taken;
 use answers::not_open;
@@ -6,13 +9,16 @@ use answers::of_answer;
 use answers::of_report;
 use answers::of_status;
 use answers::text;
+use counters::counting;
 use polled::Polled;
 use polled::PolledMade;
 use polled::poll_through;
 use protocols::decoder::Decoder;
+use protocols::decoder::Event;
+use protocols::decoder::Total;
 use reports::Report;
 ghost use mathlib.Core.Path.{_≡_};
-ghost use Rattle.slots.specs.Slots.{closedSlot, heldBy, withDecoder, openedBy, openedAt, eventAt, totalAt, commandAt, resetAt, firstOf, polledAgain, runs, pollsAt, idleAt, askedIn, askedAt, headOf};
+ghost use Rattle.slots.specs.Slots.{closedSlot, heldBy, withDecoder, openedBy, openedAt, steppedBy, eventAt, heardBy, totalAt, commandAt, resetAt, firstOf, polledAgain, runs, pollsAt, idleAt, counterAt, askedIn, askedAt, headOf};
 
 // A closed slot holds a receiver that no call asks.
 pub struct Slot {
@@ -26,10 +32,23 @@ pub struct SlotAnswer {
     pub slot: Slot,
 }
 
-// What an edge answers before its report.
+// The two parts that an answer in three has before its last.
 pub struct Head {
-    pub status: Phrase,
-    pub command: Phrase,
+    pub first: Phrase,
+    pub second: Phrase,
+}
+
+// What a call answers: the last part alone, or the head too.
+pub struct Parts {
+    pub has_head: bool,
+    pub head: Head,
+    pub last: Phrase,
+}
+
+// The same, and the slot after the call.
+pub struct PartsAnswer {
+    pub parts: Parts,
+    pub slot: Slot,
 }
 
 // The calls on an open slot.
@@ -40,6 +59,7 @@ pub enum Ask {
     Reset,
     Poll,
     Idle,
+    Counter,
 }
 
 // The first report of some polls that is not nothing, and the receiver after them.
@@ -71,14 +91,21 @@ fn held_by(phrase: Phrase, receiver: Polled) -> SlotAnswer
     }
 }
 
-fn with_decoder(receiver: Polled, decoder: Decoder) -> Polled
-    ensures { λ r. ⌜ r ≡ withDecoder receiver decoder ⌝ }
+// The same with another decoder.
+fn with_decoder(phrase: Phrase, receiver: Polled, decoder: Decoder) -> SlotAnswer
+    ensures { λ r. ⌜ r ≡ heldBy phrase (withDecoder receiver decoder) ⌝ }
 {
-    Polled {
-        decoder,
-        clock: receiver.clock,
-        last_edge: receiver.last_edge,
-        level: receiver.level,
+    SlotAnswer {
+        phrase,
+        slot: Slot {
+            is_open: true,
+            receiver: Polled {
+                decoder,
+                clock: receiver.clock,
+                last_edge: receiver.last_edge,
+                level: receiver.level,
+            },
+        },
     }
 }
 
@@ -101,24 +128,36 @@ pub fn opened(slot: Slot, protocol: u32, rate: u32) -> SlotAnswer
     opened_by(slot, Polled::new(protocol, rate))
 }
 
+// After a step.
+fn stepped(receiver: Polled, e: Event) -> SlotAnswer
+    ensures { λ r. ⌜ r ≡ steppedBy receiver e ⌝ }
+{
+    let status = e.status;
+    let after = e.decoder;
+    with_decoder(of_status(status), receiver, after)
+}
+
 fn event(receiver: Polled, rising: bool, duration: u32) -> SlotAnswer
     ensures { λ r. ⌜ r ≡ eventAt receiver rising duration ⌝ }
 {
     let decoder = receiver.decoder;
-    let e = decoder.event(rising, duration);
-    let status = e.status;
-    let after = e.decoder;
-    held_by(of_status(status), with_decoder(receiver, after))
+    stepped(receiver, decoder.event(rising, duration))
+}
+
+// After event_total.
+fn heard(receiver: Polled, t: Total) -> SlotAnswer
+    ensures { λ r. ⌜ r ≡ heardBy receiver t ⌝ }
+{
+    let report = t.report;
+    let after = t.decoder;
+    with_decoder(of_report(report), receiver, after)
 }
 
 fn total(receiver: Polled, rising: bool, duration: u32) -> SlotAnswer
     ensures { λ r. ⌜ r ≡ totalAt receiver rising duration ⌝ }
 {
     let decoder = receiver.decoder;
-    let t = decoder.event_total(rising, duration);
-    let report = t.report;
-    let after = t.decoder;
-    held_by(of_report(report), with_decoder(receiver, after))
+    heard(receiver, decoder.event_total(rising, duration))
 }
 
 fn command(receiver: Polled) -> SlotAnswer
@@ -132,11 +171,7 @@ fn reset(receiver: Polled) -> SlotAnswer
     ensures { λ r. ⌜ r ≡ resetAt receiver ⌝ }
 {
     let decoder = receiver.decoder;
-    // reset
-    held_by(
-        text(0x7265736574, 0),
-        with_decoder(receiver, decoder.reset()),
-    )
+    with_decoder(text(answers::RESET, 0), receiver, decoder.reset())
 }
 
 fn first_of(first: Report, next: Report) -> Report
@@ -196,8 +231,19 @@ fn idle(receiver: Polled, count: u32) -> SlotAnswer
 {
     let mut after = receiver;
     after.clock = std::num::wrapping_add_u32(receiver.clock, count);
-    // idle
-    held_by(text(0x69646C65, 0), after)
+    held_by(text(answers::IDLE, 0), after)
+}
+
+// The level tells which of a protocol's counters.
+fn counter(receiver: Polled, last: bool, number: u32) -> SlotAnswer
+    ensures { λ r. ⌜ r ≡ counterAt receiver last number ⌝ }
+{
+    let decoder = receiver.decoder;
+    with_decoder(
+        text(answers::COUNTER, 0),
+        receiver,
+        counting(decoder, last, number),
+    )
 }
 
 fn asked_in(ask: Ask, receiver: Polled, level: bool, number: u32) -> SlotAnswer
@@ -210,10 +256,11 @@ fn asked_in(ask: Ask, receiver: Polled, level: bool, number: u32) -> SlotAnswer
         Ask::Reset => reset(receiver),
         Ask::Poll => polls(receiver, level, number),
         Ask::Idle => idle(receiver, number),
+        Ask::Counter => counter(receiver, level, number),
     }
 }
 
-// The number is a duration, or a count of polls.
+// The number is a duration, a count of polls, or that of a bit.
 pub fn asked(ask: Ask, slot: Slot, level: bool, number: u32) -> SlotAnswer
     ensures { λ r. ⌜ r ≡ askedAt ask slot level number ⌝ }
 {
@@ -232,9 +279,9 @@ pub fn head_of(slot: Slot, rising: bool, duration: u32) -> Head
     ensures { λ r. ⌜ r ≡ headOf slot rising duration ⌝ }
 {
     let stepped = asked(Ask::Event, slot, rising, duration);
-    let status = stepped.phrase;
+    let first = stepped.phrase;
     let after = stepped.slot;
     let answer = asked(Ask::Command, after, rising, duration);
-    let command = answer.phrase;
-    Head { status, command }
+    let second = answer.phrase;
+    Head { first, second }
 }

@@ -1,5 +1,5 @@
--- Document 01, "Decoder steps": "The sum is exact; above 32 bits it is simply no span". Where the high ends of a record fit 32 bits, as fields of that width do, a sum of 2^32 and more
--- reads none, by the law of durations above every end. And the ends of spans that are built, at any number and rate, do fit: they are 146,260 at most. Assumes nothing.
+-- Document 01, "Decoder steps": "The sum is exact; above 32 bits it is simply no span". If the high ends of a record fit 32 bits, a sum of 2^32 or more reads none.
+-- The ends of spans that are built do fit: they are at most 146,260. Assumes nothing.
 use mathlib.Core.Path.{_≡_, refl}
 use mathlib.Core.Bool.{Bool, true, false, cond}
 use Prim.Native.Nat.{ℕ, zero, suc, _+_, _-_, _^_, _≤_, _<_}

@@ -1,6 +1,5 @@
--- Document 01's numbers on spans at 1 MHz, each by computation from the rules: the nineteen spans that it prints, those that overlap, and its starred numbers.
--- And its last rate.
--- Assumes nothing.
+-- Document 01's numbers on spans at 1 MHz, by computation from the rules: the nineteen spans that it prints, the spans that overlap, and its starred numbers.
+-- And the last rate. Assumes nothing.
 use mathlib.Core.Path.{_≡_, refl}
 use mathlib.Core.List.{List, [], _∷_}
 use Prim.Native.Nat.{ℕ, _*_, _^_, _≤_, _<_}

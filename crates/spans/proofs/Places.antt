@@ -1,5 +1,5 @@
--- Which place a range of durations reads, as one computed test over the spans: the places before it lie apart from the range, and its own holds it.
--- The lookup follows the test place by place. And a duration above every high end reads none. No place is above 8. Assumes nothing.
+-- Which place a range of durations reads, by one computed test over the spans: no place before it touches the range, and its own span holds the range.
+-- The lookup follows the test place by place. A duration above every high end reads none. No place is above 8. Assumes nothing.
 use mathlib.Core.Path.{_≡_, refl, ap, _∙_}
 use mathlib.Core.Bool.{Bool, true, false, cond, _&&_, _||_}
 use Prim.Native.Nat.{ℕ, zero, suc, _+_, _≤_, _<_}

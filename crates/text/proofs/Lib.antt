@@ -1,5 +1,4 @@
 pub mod Puts
 pub mod Parts
 pub mod Shown
-pub mod Fits
 pub mod Determined

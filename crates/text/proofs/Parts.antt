@@ -10,7 +10,7 @@ use lib.Dec.{ltb}
 use lib.ListN.{length, getD, drop, drop-of-length-le}
 use lib.Seq.{drop-cons}
 use borrow.Author.Tests.{ltb-true, ltb-false}
-use Rattle.text.specs.Text.{putsOf, firstLetter, otherLetters, letters, digitAt, leadAt, digitsOf, nextText, numbersText}
+use Rattle.text.specs.Text.{putsOf, firstLetter, otherLetters, letters, digitAt, digitsOf, nextText, numbersText}
 use Rattle.text.proofs.Puts.{PutChar, Put, after-char, after-text}
 
 letters-next : (n word : ℕ) → 0 < n → firstLetter word ∷ letters (n - 1) (otherLetters word) ≡ letters n word
@@ -25,17 +25,17 @@ unfolding letters
 no-letters zero word h = refl
 no-letters (suc n) word h = absurd (not-suc-le-zero h)
 
-pub digits-next : (n column power x : ℕ) → 0 < n → digitAt x power (leadAt n column) ∷ digitsOf (n - 1) column (power / 10) x ≡ digitsOf n column power x
+digits-next : (n power x : ℕ) → 0 < n → digitAt x power ∷ digitsOf (n - 1) (power / 10) x ≡ digitsOf n power x
 unfolding digitsOf
-digits-next zero column power x h = absurd (not-suc-le-zero h)
-digits-next (suc n) column power x h =
+digits-next zero power x h = absurd (not-suc-le-zero h)
+digits-next (suc n) power x h =
     let e : suc n - 1 ≡ n = omega arith in
-    ap (λ (m : ℕ). digitAt x power (leadAt (suc n) column) ∷ digitsOf m column (power / 10) x) e
+    ap (λ (m : ℕ). digitAt x power ∷ digitsOf m (power / 10) x) e
 
-pub no-digits : (n column power x : ℕ) → n ≤ 0 → [] ≡ digitsOf n column power x
+pub no-digits : (n power x : ℕ) → n ≤ 0 → [] ≡ digitsOf n power x
 unfolding digitsOf
-no-digits zero column power x h = refl
-no-digits (suc n) column power x h = absurd (not-suc-le-zero h)
+no-digits zero power x h = refl
+no-digits (suc n) power x h = absurd (not-suc-le-zero h)
 
 module _ (count i : ℕ) (ns : List ℕ) where
   counted : i < length ns → i < count → nextText true (getD ns i 0) ++ numbersText (count - (i + 1)) (drop (i + 1) ns) ≡ numbersText (count - i) (drop i ns)
@@ -78,12 +78,11 @@ module _ (text : List ℕ) (next : ℕ) (left : List ℕ) (after : ℕ) (whole :
       ∙ inv
 
   pub digit-put
-      : (n column power x lead b : ℕ) → 0 < n → putsOf text next (digitsOf n column power x) ≡ whole → PutChar text next b left after
-      → b ≡ digitAt x power lead → lead ≡ leadAt n column → putsOf left after (digitsOf (n - 1) column (power / 10) x) ≡ whole
-  digit-put n column power x lead b h inv p e f =
-      let cs = digitsOf (n - 1) column (power / 10) x in
-      after-char text next left after cs b p ∙ (λ i. putsOf text next (e i ∷ cs)) ∙ (λ i. putsOf text next (digitAt x power (f i) ∷ cs))
-      ∙ ap (λ (bs : List ℕ). putsOf text next bs) (digits-next n column power x h)
+      : (n power x b : ℕ) → 0 < n → putsOf text next (digitsOf n power x) ≡ whole → PutChar text next b left after → b ≡ digitAt x power
+      → putsOf left after (digitsOf (n - 1) (power / 10) x) ≡ whole
+  digit-put n power x b h inv p e =
+      let cs = digitsOf (n - 1) (power / 10) x in
+      after-char text next left after cs b p ∙ (λ i. putsOf text next (e i ∷ cs)) ∙ ap (λ (bs : List ℕ). putsOf text next bs) (digits-next n power x h)
       ∙ inv
 
   pub number-put

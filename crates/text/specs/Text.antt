@@ -21,10 +21,6 @@ shown [] = []
 shown (zero ∷ bs) = shown bs
 shown (suc b ∷ bs) = suc b ∷ shown bs
 
--- and how many they are
-abbrev pub charsIn : List ℕ → ℕ
-charsIn bs = length (shown bs)
-
 -- characters by their codes
 abbrev pub chars : List Char → List ℕ
 chars cs = map code cs
@@ -41,26 +37,18 @@ unfoldable pub letters : ℕ → ℕ → List ℕ
 letters zero word = []
 letters (suc n) word = firstLetter word ∷ letters n (otherLetters word)
 
--- the digit of a number at a power of ten; in front of its first digit what leads
-abbrev pub digitAt : ℕ → ℕ → ℕ → ℕ
-digitAt x power lead = cond (leb power 1) (48 + x % 10) (cond (leb power x) (48 + x / power % 10) lead)
+-- the digit of a number at a power of ten; none in front of its first digit
+abbrev pub digitAt : ℕ → ℕ → ℕ
+digitAt x power = cond (leb power 1) (48 + x % 10) (cond (leb power x) (48 + x / power % 10) 0)
 
--- what leads where so many digits are left: a blank within a column, else none
-abbrev pub leadAt : ℕ → ℕ → ℕ
-leadAt left column = cond (ltb left column) (code " ") 0
-
--- so many digits of a number, from a power of ten down; blanks for those that it lacks within a column
-unfoldable pub digitsOf : ℕ → ℕ → ℕ → ℕ → List ℕ
-digitsOf zero column power x = []
-digitsOf (suc n) column power x = digitAt x power (leadAt (suc n) column) ∷ digitsOf n column (power / 10) x
+-- so many digits of a number, from a power of ten down
+unfoldable pub digitsOf : ℕ → ℕ → ℕ → List ℕ
+digitsOf zero power x = []
+digitsOf (suc n) power x = digitAt x power ∷ digitsOf n (power / 10) x
 
 -- a number below 2^64 in decimal: at most 20 digits
 unfoldable pub decimal : ℕ → List ℕ
-decimal x = digitsOf 20 0 (10 ^ 19) x
-
--- a number at the right of a column, after one blank at least
-unfoldable pub rightText : ℕ → ℕ → List ℕ
-rightText column x = chars (" " ∷ []) ++ digitsOf 20 column (10 ^ 19) x
+decimal x = digitsOf 20 (10 ^ 19) x
 
 -- a number after a blank, where it is to be put
 unfoldable pub nextText : Bool → ℕ → List ℕ

@@ -1,8 +1,6 @@
 // Text that gathers in a lent slice. Each function takes the place where its text starts, and answers the next one.
-ghost use Prim.Native.Nat.{_^_, _≤_};
 ghost use mathlib.Core.Path.{_≡_};
-ghost use mathlib.Core.List.{[], _∷_};
-ghost use Rattle.text.specs.Text.{putOf, putsOf, charsIn, firstLetter, otherLetters, letters, digitAt, leadAt, digitsOf, decimal, rightText, nextText, numbersText};
+ghost use Rattle.text.specs.Text.{putOf, putsOf, firstLetter, otherLetters, letters, digitAt, decimal, nextText, numbersText};
 
 // A character, where there is room; 0 is none.
 pub fn put(text: &mut [u8], at: usize, b: u8) -> usize
@@ -48,9 +46,9 @@ pub fn put_letters(text: &mut [u8], at: usize, word: u64) -> usize
     next
 }
 
-// The digit at a power of ten; in front of the first what leads.
-fn digit_at(x: u64, power: u64, lead: u8) -> u8
-    ensures { λ r. ⌜ r ≡ digitAt x power lead ⌝ }
+// The digit at a power of ten; none in front of the first.
+fn digit_at(x: u64, power: u64) -> u8
+    ensures { λ r. ⌜ r ≡ digitAt x power ⌝ }
 {
     if power <= 1 {
         return b'0' + (x % 10) as u8;
@@ -58,69 +56,23 @@ fn digit_at(x: u64, power: u64, lead: u8) -> u8
     if power <= x {
         return b'0' + (x / power % 10) as u8;
     }
-    lead
+    0
 }
 
-// What leads where so many digits are left: a blank within a column.
-fn lead_at(left: usize, column: usize) -> u8
-    ensures { λ r. ⌜ r ≡ leadAt left column ⌝ }
-{
-    if left < column { b' ' } else { 0 }
-}
-
-// At most 20 digits; blanks for those that the number lacks within a column.
-fn put_digits(text: &mut [u8], at: usize, column: usize, x: u64) -> usize
-    ensures next { λ r. ⌜ r ≡ putsOf (now (text .entry)) at (digitsOf 20 column (10 ^ 19) x) .1 ⌝ }
-    ensures left { λ _. ⌜ now (text .exit) ≡ putsOf (now (text .entry)) at (digitsOf 20 column (10 ^ 19) x) .0 ⌝ }
-{
-    let mut next = at;
-    let mut power: u64 = 10000000000000000000;
-    let mut left: usize = 20;
-    while left > 0 {
-        next = put(text, next, digit_at(x, power, lead_at(left, column)));
-        power = power / 10;
-        left -= 1;
-    }
-    next
-}
-
-// A number in decimal.
+// A number in decimal: at most 20 digits.
 pub fn put_number(text: &mut [u8], at: usize, x: u64) -> usize
     ensures next { λ r. ⌜ r ≡ putsOf (now (text .entry)) at (decimal x) .1 ⌝ }
     ensures left { λ _. ⌜ now (text .exit) ≡ putsOf (now (text .entry)) at (decimal x) .0 ⌝ }
 {
-    put_digits(text, at, 0, x)
-}
-
-// 1 for a character, 0 for none.
-fn length_of(b: u8) -> usize
-    ensures { λ r. ⌜ (r ≡ charsIn (b ∷ [])) × (r ≤ 1) ⌝ }
-{
-    if 0 < b { 1 } else { 0 }
-}
-
-// How many characters a number has in decimal: a writer can ask first what fits.
-pub fn number_length(x: u64) -> usize
-    ensures { λ r. ⌜ r ≡ charsIn (decimal x) ⌝ }
-{
-    let mut length: usize = 0;
+    let mut next = at;
     let mut power: u64 = 10000000000000000000;
-    let mut left: usize = 20;
+    let mut left: u8 = 20;
     while left > 0 {
-        length += length_of(digit_at(x, power, 0));
+        next = put(text, next, digit_at(x, power));
         power = power / 10;
         left -= 1;
     }
-    length
-}
-
-// A number at the right of a column, after one blank at least.
-pub fn put_right(text: &mut [u8], at: usize, column: usize, x: u64) -> usize
-    ensures next { λ r. ⌜ r ≡ putsOf (now (text .entry)) at (rightText column x) .1 ⌝ }
-    ensures left { λ _. ⌜ now (text .exit) ≡ putsOf (now (text .entry)) at (rightText column x) .0 ⌝ }
-{
-    let next = put(text, at, b' ');
-    put_digits(text, next, column, x)
+    next
 }
 
 // A number after a blank, where it is to be put.

@@ -5,8 +5,6 @@ use Rattle.words.proofs.fresh as fresh
 use Rattle.words.proofs.is_begun as is-begun
 use Rattle.words.proofs.low_32 as low-32
 use Rattle.words.proofs.low_8 as low-8
-use Rattle.words.proofs.number_of as number-of
-use Rattle.words.proofs.name_of as name-of
 use Rattle.words.proofs.fed as fed
 
 fresh-fixed : Fixed fresh.ended (λ M. fresh.clauses) fresh.Symbol.routine
@@ -20,12 +18,6 @@ low-32-fixed M 𝓤 H 𝓜 𝓖 𝓡 = (low-32.Met.met 𝓤 H 𝓜 𝓖 𝓡, λ
 
 low-8-fixed : Fixed low-8.ended (λ M. low-8.clauses) low-8.Symbol.routine
 low-8-fixed M 𝓤 H 𝓜 𝓖 𝓡 = (low-8.Met.met 𝓤 H 𝓜 𝓖 𝓡, λ κs a. asks-nothing 𝓤, λ κs a g h r s v w. both one one alike)
-
-number-of-fixed : Fixed number-of.ended (λ M. number-of.clauses) number-of.Symbol.routine
-number-of-fixed M 𝓤 H 𝓜 𝓖 𝓡 = (number-of.Met.met 𝓤 H 𝓜 𝓖 𝓡, λ κs a. asks-nothing 𝓤, λ κs a g h r s v w. both one one alike)
-
-name-of-fixed : Fixed name-of.ended (λ M. name-of.clauses) name-of.Symbol.routine
-name-of-fixed M 𝓤 H 𝓜 𝓖 𝓡 = (name-of.Met.met 𝓤 H 𝓜 𝓖 𝓡, λ κs a. asks-nothing 𝓤, λ κs a g h r s v w. both one one alike)
 
 fed-fixed : Fixed fed.ended (λ M. fed.clauses) fed.Symbol.routine
 fed-fixed M 𝓤 H 𝓜 𝓖 𝓡 =

@@ -1,7 +1,7 @@
--- A line of input as it is read, and numbers a digit at a time.
-use Prim.Native.Nat.{ℕ, _+_, _-_, _*_, _/_, _%_, _^_}
+-- A line of input as it is read, a character at a time.
+use Prim.Native.Nat.{ℕ, _+_, _-_, _*_, _/_, _^_}
 use mathlib.Core.Bool.{Bool, true, false, cond, _&&_}
-use mathlib.Core.List.{List, [], _∷_}
+use mathlib.Core.List.{List}
 use lib.Dec.{leb, ltb, eqb}
 use lib.ListN.{getD, set}
 use Rattle.words.specs.declared.Line.{Line}
@@ -33,19 +33,6 @@ isLetter b = leb 97 b && leb b 122
 
 abbrev pub isDigit : ℕ → Bool
 isDigit b = leb 48 b && leb b 57
-
--- a number with one more character of its text: a digit as above, so that one without room changes nothing; any other leaves 2^64 - 1, which no digit changes
-abbrev pub spelledOn : ℕ → ℕ → ℕ
-spelledOn x b = cond (isDigit b) (digitOn x (b - 48)) (2 ^ 64 - 1)
-
--- the last eight characters of a text as digits of base 256: with one more
-abbrev pub namedOn : ℕ → ℕ → ℕ
-namedOn x b = x % 2 ^ 56 * 256 + b
-
--- a text, character by character, after what is read of it already
-unfoldable pub readBy : (ℕ → ℕ → ℕ) → ℕ → List ℕ → ℕ
-readBy on x [] = x
-readBy on x (b ∷ bs) = readBy on (on x b) bs
 
 -- a line and its numbers, after a digit of the number begun last
 abbrev pub digitFed : Line → List ℕ → ℕ → Line × List ℕ

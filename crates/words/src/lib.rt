@@ -1,7 +1,7 @@
 // A line of text and decimal numbers, a character at a time: what the programs read.
 ghost use mathlib.Core.Path.{_≡_};
 ghost use Prim.Native.Nat.{_%_};
-ghost use Rattle.words.specs.Words.{freshLine, brokenLine, letterOn, isBegun, isRoom, digitOn, isLetter, isDigit, spelledOn, namedOn, readBy, digitFed, blankFed, fedOf};
+ghost use Rattle.words.specs.Words.{freshLine, brokenLine, letterOn, isBegun, isRoom, digitOn, isLetter, isDigit, digitFed, blankFed, fedOf};
 
 // A line of input as it is read: a name, and numbers after single blanks.
 pub struct Line {
@@ -98,48 +98,6 @@ fn is_digit(b: u8) -> bool
     ensures { λ r. ⌜ r ≡ isDigit b ⌝ }
 {
     b'0' <= b && b <= b'9'
-}
-
-// One more character of a number's text.
-fn spelled_on(x: u64, b: u8) -> u64
-    ensures { λ r. ⌜ r ≡ spelledOn x b ⌝ }
-{
-    if is_digit(b) {
-        return with_digit(x, b - b'0');
-    }
-    0xFFFFFFFFFFFFFFFF
-}
-
-// The number that a text spells; 2^64 - 1 where a character is no digit. A digit without room is passed over, so a text of more than 64 bits gives 2^60 or more.
-pub fn number_of(s: &[u8]) -> u64
-    ensures { λ r. ⌜ r ≡ readBy spelledOn 0 (now (s .entry)) ⌝ }
-{
-    let mut x: u64 = 0;
-    let mut i: usize = 0;
-    while i < s.len() {
-        x = spelled_on(x, s[i]);
-        i += 1;
-    }
-    x
-}
-
-fn named_on(x: u64, b: u8) -> u64
-    ensures { λ r. ⌜ r ≡ namedOn x b ⌝ }
-{
-    x % 0x100000000000000 * 256 + b as u64
-}
-
-// The characters of a text as digits of base 256; of a long one the last eight.
-pub fn name_of(s: &[u8]) -> u64
-    ensures { λ r. ⌜ r ≡ readBy namedOn 0 (now (s .entry)) ⌝ }
-{
-    let mut x: u64 = 0;
-    let mut i: usize = 0;
-    while i < s.len() {
-        x = named_on(x, s[i]);
-        i += 1;
-    }
-    x
 }
 
 // A digit of the number begun last.

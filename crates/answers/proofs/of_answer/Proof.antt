@@ -8,8 +8,8 @@ of-answer-spec =
     tie.close
     (tie.spec
     (λ c. search needs)
-    (λ c κs. search needs)
+    (λ c κs. tt)
     (λ c. search needs)
-    (λ c κs. search needs)
+    (λ c κs. tt)
     (λ c. simp (c .text .ensures, c .before .enum-told .given .1))
     (λ c. simp (c .of-refused .ensures, c .before .before .answer .given .1)))

@@ -8,11 +8,11 @@ of-encoded-spec =
     tie.close
     (tie.spec
     (λ c. search needs)
-    (λ c κs. search needs)
+    (λ c κs. tt)
     (λ c. search needs)
-    (λ c κs. search needs)
+    (λ c κs. tt)
     (λ c. search needs)
-    (λ c κs. search needs)
+    (λ c κs. tt)
     (λ c. simp (c .with .ensures, c .before .before .encoded .given .1))
     (λ c. simp (c .of-refused .ensures, c .before .before .encoded2 .given .1))
     (λ c. simp (c .with2 .ensures, c .before .before .encoded3 .given .1)))

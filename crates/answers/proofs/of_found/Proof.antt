@@ -9,8 +9,8 @@ of-found-spec =
     (tie.spec
     (λ c. search needs)
     (λ c. search needs)
-    (λ c κs. search needs)
+    (λ c κs. tt)
     (λ c. search needs)
-    (λ c κs. search needs)
+    (λ c κs. tt)
     (λ c. simp (c .with .ensures, c .before .before .found .given .1))
     (λ c. simp (c .text .ensures, c .before .enum-told .given .1)))

@@ -1,5 +1,4 @@
 -- `answers::of_report` meets its contract: a report by its numbers. Assumes nothing.
-use borrow.Author.Needs.{needs}
 use mathlib.Core.Path.{ap, _∙_}
 use Rattle.answers.specs.Answers.{reportBy, reportPhrase}
 use Rattle.answers.proofs.of_report.Statement.{statement}
@@ -8,4 +7,4 @@ use Rattle.answers.proofs.of_report.Tie as tie
 pub of-report-spec : {M : Type 1} → statement M
 unfolding reportPhrase
 of-report-spec =
-    tie.close (tie.spec (λ c κs. search needs) (λ c κs. search needs) (λ c. c .report-by .ensures ∙ ap reportBy (c .before .numbers-of .ensures)))
+    tie.close (tie.spec (λ c κs. tt) (λ c κs. tt) (λ c. c .report-by .ensures ∙ ap reportBy (c .before .numbers-of .ensures)))

@@ -1,5 +1,4 @@
 -- `answers::report_by` meets its contract: each arm is a case of the definition. Assumes nothing.
-use borrow.Author.Needs.{needs}
 use borrow.Author.Tests.{ne-eqb}
 use Rattle.answers.proofs.report_by.Statement.{statement}
 use Rattle.answers.proofs.report_by.Tie as tie
@@ -8,10 +7,10 @@ pub report-by-spec : {M : Type 1} → statement M
 report-by-spec =
     tie.close
     (tie.spec
-    (λ c κs. search needs)
-    (λ c κs. search needs)
-    (λ c κs. search needs)
-    (λ c κs. search needs)
+    (λ c κs. tt)
+    (λ c κs. tt)
+    (λ c κs. tt)
+    (λ c κs. tt)
     (λ c. simp (c .text .ensures, c .before .match .keys1))
     (λ c. simp (c .name-of .ensures, c .before .before .match .keys2))
     (λ c. simp (c .of-fault .ensures, c .before .match .keys3))

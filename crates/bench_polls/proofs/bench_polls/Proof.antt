@@ -1,6 +1,5 @@
 -- `bench_polls::bench_polls` meets its contract: `summed`, from the receiver that `Polled::new` makes. Assumes nothing.
 use mathlib.Core.Path.{ap, _∙_}
-use borrow.Author.Needs.{needs}
 use Rattle.polled.specs.declared.PolledMade.{PolledMade}
 use Rattle.bench_polls.specs.Polls.{sumOf}
 use Rattle.bench_polls.proofs.bench_polls.Statement.{statement}
@@ -12,4 +11,4 @@ returns c =
     c .summed .ensures ∙ ap (λ (m : PolledMade). sumOf 0 (m .receiver) (start .levels .now)) (c .before .before .new .ensures)
 
 pub bench-polls-spec : {M : Type 1} → statement M
-bench-polls-spec = tie.close (tie.spec (λ c κs. search needs) (λ c κs. search needs) returns)
+bench-polls-spec = tie.close (tie.spec (λ c κs. tt) (λ c κs. tt) returns)

@@ -1,5 +1,5 @@
--- `polled::poll` meets its contract: a walk of its MIR, by hand. The borrow is opened and the record is read; the ends of its spans are lent to `step` for a lifetime that is made for the call, and come back;
--- what the step gives is stored, the memory only where the level changed; and the borrow is closed. All that the proof knows of `step` is that it meets its contract. Assumes nothing.
+-- `polled::poll` meets its contract: a walk by hand. The record is read, and the ends of its spans are lent to `step`. What `step` gives is stored; the memory only where the level changed.
+-- Of `step` the proof knows its contract alone. Assumes nothing.
 use mathlib.Core.Path.{_≡_, refl, sym, ap, subst, _∙_}
 use mathlib.Core.Bool.{Bool, true, false, Bool·beq}
 use Prim.Native.Nat.{ℕ}

@@ -18,7 +18,7 @@ returns c =
     let p = c .before .before in
     let a = p .before .args in
     let z = receiverOf (ends (a .low .now) (a .high .now)) (a .memory) (a .clock) (a .last-edge) (a .was) in
-    c .without-edge .ensures ∙ sym (ap partOf (refused z (a .level) (number (sym (p .past-end .ensures) ∙ c .before .if1 .taken)) refl))
+    c .stepped-to .ensures ∙ sym (ap partOf (refused z (a .level) (number (sym (p .past-end .ensures) ∙ c .before .if1 .taken)) refl))
 
 returns-2 : tie.Need-returns-2
 returns-2 c =
@@ -26,19 +26,21 @@ returns-2 c =
     let o = n .before in
     let a = o .before .before .args in
     let z = receiverOf (ends (a .low .now) (a .high .now)) (a .memory) (a .clock) (a .last-edge) (a .was) in
-    simp (c .without-edge2 .ensures, unchanged z (a .level) (number (sym (o .before .past-end .ensures) ∙ o .if1 .left)) (c .before .if2 .taken), n .wrapping-add-u32 .ensures)
+    simp (c .stepped-to2 .ensures, unchanged z (a .level) (number (sym (o .before .past-end .ensures) ∙ o .if1 .left)) (c .before .if2 .taken), n .wrapping-add-u32 .ensures)
 
 returns-3 : tie.Need-returns-3
 returns-3 c =
-    let s = c .before in
+    let t = c .before in
+    let s = t .before in
     let e = s .before in
     let n = e .before in
     let o = n .before in
     let a = o .before .before .args in
     let z = receiverOf (ends (a .low .now) (a .high .now)) (a .memory) (a .clock) (a .last-edge) (a .was) in
     simp (
+      c .stepped-to3 .ensures,
       changed z (a .level) (number (sym (o .before .past-end .ensures) ∙ o .if1 .left)) (e .if2 .left),
-      c .total-in .ensures,
+      t .total-in .ensures,
       run-length _ _ _ (s .wrapping-sub-u32 .ok) (search needs) (s .wrapping-sub-u32 .ensures),
       n .wrapping-add-u32 .ensures,
     )
@@ -55,4 +57,5 @@ step-spec =
     returns-2
     (λ c κs. search needs)
     (λ c κs. search needs)
+    (λ c κs. tt)
     returns-3)

@@ -1,4 +1,4 @@
--- `rc5_encoder::encode` meets its contract: the count is known before the first store, and `put_bits` lays the rest behind the 0. Assumes nothing.
+-- `rc5_encoder::encode` meets its contract: the count is known before the first store, and `put_bits` writes the rest after the 0. Assumes nothing.
 use mathlib.Core.Path.{refl, sym, ap, _∙_}
 use native.Mathlib.Omega.{arith}
 use borrow.Author.Tests.{not-true, not-false}

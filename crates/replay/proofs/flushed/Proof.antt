@@ -11,7 +11,7 @@ flushed-spec =
     (tie.spec
     (λ c. search needs)
     (λ c. simp length-take (omega arith))
-    (λ c κs. search needs)
+    (λ c κs. tt)
     (λ c. search needs)
     (λ c. search needs)
     (λ c. search needs)

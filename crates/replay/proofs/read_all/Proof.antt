@@ -6,10 +6,10 @@ use Rattle.replay.proofs.read_all.Statement.{statement}
 use Rattle.replay.proofs.read_all.Tie as tie
 
 abbrev Inv-loop : tie.InvT-loop
-Inv-loop text₀ numbers₀ buf₀ state₀ input₀ left₀ text numbers buf state input left = (length text ≡ length text₀) × (length buf ≡ length buf₀)
+Inv-loop text₀ numbers₀ buf₀ at₀ slots₀ input₀ left₀ text numbers buf at slots input left = (length text ≡ length text₀) × (length buf ≡ length buf₀)
 
 abbrev μ-loop : tie.MeasureT-loop
-μ-loop text₀ numbers₀ buf₀ state₀ input₀ left₀ text numbers buf state input left = left
+μ-loop text₀ numbers₀ buf₀ at₀ slots₀ input₀ left₀ text numbers buf at slots input left = left
 
 pub read-all-spec : {M : Type 1} → statement M
 read-all-spec =
@@ -17,23 +17,22 @@ read-all-spec =
     (tie.spec
     Inv-loop
     μ-loop
-    (λ c κs. search needs)
+    (λ c κs. tt)
     (λ c. (refl, refl))
-    (λ c κs. search needs)
-    (λ c κs. search needs)
+    (λ c κs. tt)
+    (λ c κs. tt)
     (λ c. search needs)
     (λ c. search needs)
     (λ c. search needs)
-    (λ c κs. search needs)
+    (λ c κs. tt)
+    (λ c κs. tt)
+    (λ c κs. tt)
+    (λ c. search (needs, c .before .before .before .before .before .before .before .before .before .before .before .before .before .before .before .before .before .before .before .before .before .before .loop .inv))
+    (λ c. search (needs, c .before .before .before .before .before .before .before .before .before .before .before .before .before .before .before .before .before .before .before .before .before .before .loop .inv, c .before .before .before .before .before .before .before .before .before .before .before .before .before .before .before .before .before .buf .given))
     (λ c. search needs)
     (λ c. search needs)
     (λ c. search needs)
-    (λ c. search needs)
-    (λ c. search needs)
-    (λ c. search needs)
-    (λ c. search needs)
-    (λ c. search needs)
-    (λ c. (search needs, search needs))
+    (λ c. (search (needs, c .before .before .before .before .before .before .before .before .before .before .before .before .before .before .before .before .before .before .before .before .before .before .loop .inv), search (needs, c .before .before .before .before .before .before .before .before .before .before .before .before .before .before .before .before .before .before .before .before .before .before .loop .inv, c .before .before .before .before .before .before .before .before .before .before .before .before .before .before .before .before .before .buf .given)))
     (λ c. search needs)
     (λ c. search needs)
     (λ c. search needs))

@@ -1,5 +1,4 @@
 -- `slots::command` meets its contract, from those of what it calls. Assumes nothing.
-use borrow.Author.Needs.{needs}
 use Rattle.slots.proofs.command.Statement.{statement}
 use Rattle.slots.proofs.command.Tie as tie
 
@@ -7,7 +6,7 @@ pub command-spec : {M : Type 1} → statement M
 command-spec =
     tie.close
     (tie.spec
-    (λ c κs. search needs)
-    (λ c κs. search needs)
-    (λ c κs. search needs)
+    (λ c κs. tt)
+    (λ c κs. tt)
+    (λ c κs. tt)
     (λ c. simp (c .held-by .ensures, c .before .of-report .ensures, c .before .before .command .ensures)))

@@ -1,5 +1,4 @@
 -- `slots::polls` meets its contract, from those of what it calls. Assumes nothing.
-use borrow.Author.Needs.{needs}
 use Rattle.slots.proofs.polls.Statement.{statement}
 use Rattle.slots.proofs.polls.Tie as tie
 
@@ -7,7 +6,7 @@ pub polls-spec : {M : Type 1} → statement M
 polls-spec =
     tie.close
     (tie.spec
-    (λ c κs. search needs)
-    (λ c κs. search needs)
-    (λ c κs. search needs)
+    (λ c κs. tt)
+    (λ c κs. tt)
+    (λ c κs. tt)
     (λ c. simp (c .held-by .ensures, c .before .of-report .ensures, c .before .before .before .run-of .ensures)))

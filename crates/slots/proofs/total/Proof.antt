@@ -1,5 +1,4 @@
 -- `slots::total` meets its contract, from those of what it calls. Assumes nothing.
-use borrow.Author.Needs.{needs}
 use Rattle.slots.proofs.total.Statement.{statement}
 use Rattle.slots.proofs.total.Tie as tie
 
@@ -7,8 +6,6 @@ pub total-spec : {M : Type 1} → statement M
 total-spec =
     tie.close
     (tie.spec
-    (λ c κs. search needs)
-    (λ c κs. search needs)
-    (λ c κs. search needs)
-    (λ c κs. search needs)
-    (λ c. simp (c .held-by .ensures, c .before .with-decoder .ensures, c .before .before .of-report .ensures, c .before .before .before .before .event-total .ensures)))
+    (λ c κs. tt)
+    (λ c κs. tt)
+    (λ c. simp (c .heard .ensures, c .before .event-total .ensures)))

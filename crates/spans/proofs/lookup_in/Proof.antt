@@ -1,4 +1,4 @@
--- `spans::lookup_in` meets its contract. The loop's invariant: no place before this one holds the duration, so the lookup is what the places from here on give.
+-- `spans::lookup_in` meets its contract. The loop's invariant: no place before this one holds the duration, so the lookup is that of the places that are left.
 -- Assumes nothing.
 use Prim.Native.Nat.{ℕ, suc, _≤_, _<_, _+_, _-_}
 use mathlib.Core.Path.{_≡_, _∙_, sym}

@@ -41,8 +41,8 @@ put-durations-spec =
     (λ c. (refl, numbers-start _ _ _ _))
     (λ c. search needs)
     (λ c. search needs)
-    (λ c κs. search needs)
-    (λ c κs. search needs)
+    (λ c κs. tt)
+    (λ c κs. tt)
     (λ c. search needs)
     (λ c. search needs)
     loop-again

@@ -21,8 +21,8 @@ unfolding nextText
 put-next-spec =
     tie.close
     (tie.spec
-    (λ c κs. search needs)
-    (λ c κs. search needs)
+    (λ c κs. tt)
+    (λ c κs. tt)
     (λ c. search needs)
     returns
     (λ c.

@@ -40,7 +40,7 @@ put-numbers-spec =
     (λ c. (refl, numbers-start _ _ _ _))
     (λ c. search needs)
     (λ c. search needs)
-    (λ c κs. search needs)
+    (λ c κs. tt)
     (λ c. search needs)
     (λ c. search needs)
     loop-again

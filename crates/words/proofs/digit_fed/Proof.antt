@@ -29,16 +29,16 @@ pub digit-fed-spec : {M : Type 1} → statement M
 digit-fed-spec =
     tie.close
     (tie.spec
-    (λ c κs. search needs)
+    (λ c κs. tt)
     (λ c. let e = lt-leb _ _ (c .before .if1 .taken) in (simp (e, c .broken .ensures), simp e))
-    (λ c κs. search needs)
+    (λ c κs. tt)
     returns-2
     (λ c. search needs)
     (λ c. search needs)
-    (λ c κs. search needs)
-    (λ c κs. search needs)
+    (λ c κs. tt)
+    (λ c κs. tt)
     (λ c. search needs)
     (λ c. search needs)
     returns-3
-    (λ c κs. search needs)
+    (λ c κs. tt)
     returns-4)

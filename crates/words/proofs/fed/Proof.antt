@@ -2,7 +2,6 @@
 use mathlib.Core.Path.{sym, _∙_}
 use borrow.Author.Tests.{eq-eqb, ne-eqb}
 use Rattle.words.proofs.Tests.{digit-from}
-use borrow.Author.Needs.{needs}
 use Rattle.words.proofs.fed.Statement.{statement}
 use Rattle.words.proofs.fed.Tie as tie
 
@@ -43,16 +42,16 @@ pub fed-spec : {M : Type 1} → statement M
 fed-spec =
     tie.close
     (tie.spec
-    (λ c κs. search needs)
+    (λ c κs. tt)
     returns
-    (λ c κs. search needs)
-    (λ c κs. search needs)
+    (λ c κs. tt)
+    (λ c κs. tt)
     returns-2
-    (λ c κs. search needs)
+    (λ c κs. tt)
     returns-3
-    (λ c κs. search needs)
+    (λ c κs. tt)
     (λ c. digit-from _ (sym (c .before .before .is-digit .ensures) ∙ c .before .if4 .taken))
-    (λ c κs. search needs)
+    (λ c κs. tt)
     returns-4
-    (λ c κs. search needs)
+    (λ c κs. tt)
     returns-5)

@@ -11,5 +11,5 @@ with-letter-spec =
     (λ c. search needs)
     (λ c. search needs)
     (λ c. simp (lt-ltb _ _ (c .before .if1 .taken)))
-    (λ c κs. search needs)
+    (λ c κs. tt)
     (λ c. simp (le-ltb _ _ (c .before .if1 .left), c .broken .ensures)))

@@ -28,7 +28,7 @@ put-marks-spec =
     Inv-loop
     μ-loop
     (λ c. (refl, refl))
-    (λ c κs. search needs)
+    (λ c κs. tt)
     (λ c. search needs)
     (λ c. search needs)
     (λ c. search needs)

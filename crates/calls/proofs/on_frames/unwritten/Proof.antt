@@ -29,7 +29,7 @@ unwritten-spec =
     (λ c. (search needs, omega arith))
     (λ c. search needs)
     (λ c. search needs)
-    (λ c κs. search needs)
+    (λ c κs. tt)
     (λ c. search needs)
     (λ c. search needs)
     (λ c. search needs)

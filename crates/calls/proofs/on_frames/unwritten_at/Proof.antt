@@ -9,6 +9,6 @@ pub unwritten-at-spec : {M : Type 1} → statement M
 unwritten-at-spec =
     tie.close
     (tie.spec
-    (λ c κs. search needs)
+    (λ c κs. tt)
     (λ c. (simp (sym (c .before .mark-of .ensures), eq-eqb _ _ (c .if1 .taken)), search needs))
     (λ c. (simp (sym (c .before .mark-of .ensures), ne-eqb _ _ (c .if1 .left)), search needs)))

@@ -3,7 +3,6 @@ use mathlib.Core.Path.{_≡_, ap, _∙_}
 use mathlib.Core.Bool.{Bool, false, cond, _||_}
 use lib.Dec.{eqb}
 use borrow.Author.Tests.{eq-eqb, ne-eqb}
-use borrow.Author.Needs.{needs}
 use Rattle.slots.specs.Slots.{openedAt, askedAt}
 use Rattle.slots.specs.declared.SlotAnswer.{SlotAnswer}
 use Rattle.slots.specs.declared.Ask.{Ask}
@@ -42,12 +41,12 @@ unfolding onSlot
 on-slot-spec =
     tie.close
     (tie.spec
-    (λ c κs. search needs)
+    (λ c κs. tt)
     (λ c. simp (eq-eqb _ _ (c .before .if1 .taken)) (c .opened .ensures))
-    (λ c κs. search needs)
+    (λ c κs. tt)
     returns-2
-    (λ c κs. search needs)
+    (λ c κs. tt)
     returns-3
-    (λ c κs. search needs)
-    (λ c κs. search needs)
+    (λ c κs. tt)
+    (λ c κs. tt)
     returns-4)

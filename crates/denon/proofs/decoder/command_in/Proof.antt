@@ -6,4 +6,4 @@ use Rattle.denon.proofs.decoder.command_in.Tie as tie
 pub command-in-spec : {M : Type 1} → statement M
 command-in-spec =
     tie.close
-    (tie.spec (λ c. search needs) (λ c. search needs) (λ c. search needs) (λ c κs. search needs) (λ c. search needs) (λ c. search needs) (λ c. simp (c .unpack .ensures, c .before .enum-told3 .given .1)))
+    (tie.spec (λ c. search needs) (λ c. search needs) (λ c. search needs) (λ c κs. tt) (λ c. search needs) (λ c. search needs) (λ c. simp (c .unpack .ensures, c .before .enum-told3 .given .1)))

@@ -1,7 +1,6 @@
 -- `rc5::decoder::event_in` meets its contract: the answer at the place that the lookup finds. Assumes nothing.
 use mathlib.Core.Path.{_∙_, sym, ap}
 use borrow.Author.Tests.{eq-eqb}
-use borrow.Author.Needs.{needs}
 use Rattle.spans.specs.Lookup.{placeOf}
 use Rattle.spans.proofs.Places.{place-none}
 use Rattle.reports.specs.Machine.{event}
@@ -14,17 +13,17 @@ unfolding event stepIn
 event-in-spec =
     tie.close
     (tie.spec
-    (λ c κs. search needs)
-    (λ c κs. search needs)
-    (λ c κs. search needs)
-    (λ c κs. search needs)
-    (λ c κs. search needs)
-    (λ c κs. search needs)
-    (λ c κs. search needs)
-    (λ c κs. search needs)
-    (λ c κs. search needs)
-    (λ c κs. search needs)
-    (λ c κs. search needs)
+    (λ c κs. tt)
+    (λ c κs. tt)
+    (λ c κs. tt)
+    (λ c κs. tt)
+    (λ c κs. tt)
+    (λ c κs. tt)
+    (λ c κs. tt)
+    (λ c κs. tt)
+    (λ c κs. tt)
+    (λ c κs. tt)
+    (λ c κs. tt)
     (λ c. let p = c .before .before in simp (c .next-of .ensures, sym (p .place-of .ensures ∙ ap placeOf (p .before .lookup-in .ensures)) ∙ c .before .match .keys1))
     (λ c. let p = c .before .before in simp (c .next-of2 .ensures, sym (p .place-of .ensures ∙ ap placeOf (p .before .lookup-in .ensures)) ∙ c .before .match .keys2))
     (λ c. let p = c .before .before in simp (c .next-of3 .ensures, sym (p .place-of .ensures ∙ ap placeOf (p .before .lookup-in .ensures)) ∙ c .before .match .keys3))

@@ -5,7 +5,6 @@ use Rattle.spans.specs.Lookup.{placeOf}
 use Rattle.spans.proofs.Places.{place-none}
 use Rattle.reports.specs.Machine.{event}
 use Rattle.rc6.specs.Decoder.{stepIn}
-use borrow.Author.Needs.{needs}
 use Rattle.rc6.proofs.decoder.event_in.Statement.{statement}
 use Rattle.rc6.proofs.decoder.event_in.Tie as tie
 
@@ -14,8 +13,8 @@ unfolding event stepIn
 event-in-spec =
     tie.close
     (tie.spec
-    (λ c κs. search needs) (λ c κs. search needs) (λ c κs. search needs) (λ c κs. search needs) (λ c κs. search needs) (λ c κs. search needs)
-    (λ c κs. search needs) (λ c κs. search needs) (λ c κs. search needs) (λ c κs. search needs) (λ c κs. search needs)
+    (λ c κs. tt) (λ c κs. tt) (λ c κs. tt) (λ c κs. tt) (λ c κs. tt) (λ c κs. tt)
+    (λ c κs. tt) (λ c κs. tt) (λ c κs. tt) (λ c κs. tt) (λ c κs. tt)
     (λ c. simp (c .next-of .ensures, ← c .before .before .before .lookup-in .ensures, ← c .before .before .place-of .ensures, c .before .match .keys1))
     (λ c. simp (c .next-of2 .ensures, ← c .before .before .before .lookup-in .ensures, ← c .before .before .place-of .ensures, c .before .match .keys2))
     (λ c. simp (c .next-of3 .ensures, ← c .before .before .before .lookup-in .ensures, ← c .before .before .place-of .ensures, c .before .match .keys3))

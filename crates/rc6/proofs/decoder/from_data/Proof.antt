@@ -9,7 +9,7 @@ pub from-data-spec : {M : Type 1} → statement M
 from-data-spec =
     tie.close
     (tie.spec
-    (λ c κs. search needs) (λ c κs. search needs) (λ c. search needs) (λ c κs. search needs)
+    (λ c κs. tt) (λ c κs. search needs) (λ c. search needs) (λ c κs. tt) (λ c κs. tt)
     (λ c. simp (sym (c .before .before .before .is-odd .ensures) ∙ c .before .before .if1 .taken, c .before .with-bit .ensures, eq-eqb _ _ (c .if2 .taken)))
-    (λ c. simp (sym (c .before .before .before .is-odd .ensures) ∙ c .before .before .if1 .taken, c .before .with-bit .ensures, ne-eqb _ _ (c .if2 .left)))
-    (λ c. simp (c .in-data .ensures, sym (c .before .before .is-odd .ensures) ∙ c .before .if1 .left)))
+    (λ c. simp (c .in-data .ensures, sym (c .before .before .before .before .is-odd .ensures) ∙ c .before .before .before .if1 .taken, c .before .before .with-bit .ensures, ne-eqb _ _ (c .before .if2 .left)))
+    (λ c. simp (c .in-data2 .ensures, sym (c .before .before .is-odd .ensures) ∙ c .before .if1 .left)))

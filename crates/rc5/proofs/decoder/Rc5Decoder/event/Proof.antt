@@ -1,7 +1,6 @@
 -- `rc5::decoder::Rc5Decoder::event` meets its contract, from that of event_in. Assumes nothing.
-use borrow.Author.Needs.{needs}
 use Rattle.rc5.proofs.decoder.Rc5Decoder.event.Statement.{statement}
 use Rattle.rc5.proofs.decoder.Rc5Decoder.event.Tie as tie
 
 pub event-spec : {M : Type 1} → statement M
-event-spec = tie.close (tie.spec (λ c κs. search needs) (λ c. simp (c .before .event-in .ensures)))
+event-spec = tie.close (tie.spec (λ c κs. tt) (λ c. simp (c .before .event-in .ensures)))

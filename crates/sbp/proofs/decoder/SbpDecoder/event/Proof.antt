@@ -1,7 +1,6 @@
 -- `sbp::decoder::SbpDecoder::event` meets its contract, from that of event_in. Assumes nothing.
-use borrow.Author.Needs.{needs}
 use Rattle.sbp.proofs.decoder.SbpDecoder.event.Statement.{statement}
 use Rattle.sbp.proofs.decoder.SbpDecoder.event.Tie as tie
 
 pub event-spec : {M : Type 1} → statement M
-event-spec = tie.close (tie.spec (λ c κs. search needs) (λ c κs. search needs) (λ c. simp (c .again .ensures, c .before .before .event-in .ensures)))
+event-spec = tie.close (tie.spec (λ c κs. tt) (λ c κs. tt) (λ c. simp (c .again .ensures, c .before .before .event-in .ensures)))

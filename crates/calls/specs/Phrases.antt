@@ -1,0 +1,28 @@
+-- What the calls that ask no slot answer.
+use Prim.Native.Nat.{ℕ, _%_, _^_}
+use mathlib.Core.Bool.{cond}
+use mathlib.Core.List.{List}
+use lib.Dec.{eqb, ltb}
+use lib.ListN.{getD}
+use Rattle.refusals.specs.Refusals.{badProtocol, encodeTaken}
+use Rattle.spans.specs.Spans.{spansOf}
+use Rattle.spans.specs.Lookup.{lookupOf}
+use Rattle.promises.specs.Send.{leastSilence, mostDeviation}
+use Rattle.answers.specs.Answers.{isTaken, textOf, foundPhrase, answerPhrase, refusedPhrase, boundsPhrase, notUnderstood}
+use Rattle.answers.specs.declared.Phrase.{Phrase}
+
+-- lookup PROTOCOL RATE DURATION
+abbrev pub lookupPhrase : ℕ → ℕ → ℕ → Phrase
+lookupPhrase protocol rate duration =
+    let built = spansOf protocol rate in
+    cond (isTaken (built .answer)) (foundPhrase (lookupOf (built .spans) duration)) (answerPhrase (built .answer))
+
+-- bounds PROTOCOL
+abbrev pub boundsOf : ℕ → Phrase
+boundsOf protocol = cond (encodeTaken protocol) (boundsPhrase (leastSilence protocol) (mostDeviation protocol)) (refusedPhrase badProtocol)
+
+-- of a call that asks no slot. What spans and encode answer is more than one phrase: here they have an empty one
+unfoldable pub phraseOf : ℕ → List ℕ → Phrase
+phraseOf call n =
+    cond (eqb call 1) (lookupPhrase (getD n 0 0 % 2 ^ 32) (getD n 1 0 % 2 ^ 32) (getD n 2 0))
+    (cond (eqb call 13) (boundsOf (getD n 0 0 % 2 ^ 32)) (cond (ltb call 3) (textOf 0 0) notUnderstood))

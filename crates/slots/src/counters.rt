@@ -1,0 +1,112 @@
+// A decoder that is told to be at a bit: the only way to a counter that is past its end. The state becomes the one that counts, and all else stays.
+use denon::decoder::DenonMemory;
+use denon::decoder::DenonState;
+use nec::decoder::NecMemory;
+use nec::decoder::NecState;
+use protocols::decoder::Decoder;
+use protocols::decoder::Memory;
+use rc5::decoder::Rc5Memory;
+use rc5::decoder::Rc5State;
+use rc6::decoder::Rc6Memory;
+use rc6::decoder::Rc6State;
+use sbp::decoder::SbpMemory;
+use sbp::decoder::SbpState;
+ghost use mathlib.Core.Path.{_≡_};
+ghost use Rattle.slots.specs.Counters.{necCounting, rc5Counting, rc6State, rc6Counting, sbpState, sbpCounting, denonCounting, countingIn, counting};
+
+fn nec_counting(m: NecMemory, number: u32) -> NecMemory
+    ensures { λ r. ⌜ r ≡ necCounting m number ⌝ }
+{
+    NecMemory {
+        state: NecState::Receiving(number),
+        bits: m.bits,
+        saved: m.saved,
+    }
+}
+
+// Of a counter that is narrower than the number, the low bits are set.
+fn rc5_counting(m: Rc5Memory, number: u32) -> Rc5Memory
+    ensures { λ r. ⌜ r ≡ rc5Counting m number ⌝ }
+{
+    Rc5Memory {
+        state: Rc5State::Data((number % 256) as u8),
+        bits: m.bits,
+        clock: m.clock,
+    }
+}
+
+fn rc6_state(last: bool, number: u32) -> Rc6State
+    ensures { λ r. ⌜ r ≡ rc6State last number ⌝ }
+{
+    if last {
+        Rc6State::Data(number)
+    } else {
+        Rc6State::HeaderData(number)
+    }
+}
+
+fn rc6_counting(m: Rc6Memory, last: bool, number: u32) -> Rc6Memory
+    ensures { λ r. ⌜ r ≡ rc6Counting m last number ⌝ }
+{
+    Rc6Memory {
+        state: rc6_state(last, number),
+        data: m.data,
+        header: m.header,
+        toggle: m.toggle,
+        clock: m.clock,
+    }
+}
+
+fn sbp_state(last: bool, low: u16) -> SbpState
+    ensures { λ r. ⌜ r ≡ sbpState last low ⌝ }
+{
+    if last {
+        SbpState::Command(low)
+    } else {
+        SbpState::Address(low)
+    }
+}
+
+fn sbp_counting(m: SbpMemory, last: bool, number: u32) -> SbpMemory
+    ensures { λ r. ⌜ r ≡ sbpCounting m last number ⌝ }
+{
+    SbpMemory {
+        state: sbp_state(last, (number % 65536) as u16),
+        address: m.address,
+        command: m.command,
+        saved: m.saved,
+    }
+}
+
+fn denon_counting(m: DenonMemory, number: u32) -> DenonMemory
+    ensures { λ r. ⌜ r ≡ denonCounting m number ⌝ }
+{
+    DenonMemory {
+        state: DenonState::Data((number % 256) as u8),
+        bits: m.bits,
+        saved: m.saved,
+    }
+}
+
+fn counting_in(memory: Memory, last: bool, number: u32) -> Memory
+    ensures { λ r. ⌜ r ≡ countingIn memory last number ⌝ }
+{
+    match memory {
+        Memory::Nec(m) => Memory::Nec(nec_counting(m, number)),
+        Memory::Rc5(m) => Memory::Rc5(rc5_counting(m, number)),
+        Memory::Rc6(m) => Memory::Rc6(rc6_counting(m, last, number)),
+        Memory::Sbp(m) => Memory::Sbp(sbp_counting(m, last, number)),
+        Memory::Denon(m) => Memory::Denon(denon_counting(m, number)),
+    }
+}
+
+pub fn counting(decoder: Decoder, last: bool, number: u32) -> Decoder
+    ensures { λ r. ⌜ r ≡ counting decoder last number ⌝ }
+{
+    let spans = decoder.spans;
+    let memory = decoder.memory;
+    Decoder {
+        spans,
+        memory: counting_in(memory, last, number),
+    }
+}

@@ -1,4 +1,0 @@
-pub mod Letters
-pub mod Rows
-pub mod Shown
-pub mod Determined

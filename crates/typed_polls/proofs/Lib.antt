@@ -1,0 +1,4 @@
+pub mod Polls
+pub mod Lent
+pub mod ByNumber
+pub mod Determined
