@@ -120,7 +120,7 @@ macro_rules! exported {
     };
 }
 
-#[cfg(not(polls))]
+#[cfg(not(any(polls, seat)))]
 exported! {
     Nec, crate_nec crate_record_nec;
     Rc5, crate_rc5 crate_record_rc5;
@@ -170,4 +170,22 @@ encoders! {
     crate_encode_nec Nec, |addr, cmd, _, _| NecCommand { addr, cmd, repeat: false };
     crate_encode_rc5 Rc5, |addr, cmd, start, toggle| Rc5Command { addr, cmd, start, toggle };
     crate_encode_rc6 Rc6, |addr, cmd, _, toggle| Rc6Command { addr, cmd, toggle };
+}
+
+/// The place of a duration, 8 for none, with the spans built anew: what bench/seat counts.
+#[cfg(seat)]
+macro_rules! lookups {
+    ($($name:ident $protocol:ty;)*) => {
+        $(#[no_mangle]
+        pub extern "C" fn $name(rate: u32, duration: u32) -> usize {
+            <$protocol as DecoderFactory<u32>>::decoder(rate).spans().get::<usize>(duration).unwrap_or(8)
+        })*
+    };
+}
+
+#[cfg(seat)]
+lookups! {
+    crate_lookup_nec Nec;
+    crate_lookup_rc5 Rc5;
+    crate_lookup_rc6 Rc6;
 }

@@ -1,18 +1,19 @@
 /*
  * dorzhimu_seat.h: infrared frames and pulse lookup for seat firmware in C.
  *
- * Link with libseat.a, which `rt staticlib seat` writes to target/staticlib.
- * What each call returns, stores and leaves is proved, for every number that it
- * is given: crates/seat/src/lib.rt has the contracts. The refusal numbers are
- * those of document 01, the project's scope paper.
+ * Link with libseat.a, which `tools/seat-archive TARGET` writes for a processor;
+ * THE MACHINE, below, lists them. What each call returns, stores and leaves is
+ * proved, for every number that it is given: crates/seat/src/lib.rt has the
+ * contracts. The refusal numbers are those of document 01, the project's scope
+ * paper.
  *
  * Sending a command, in five lines. `after(ticks, on)` waits for so many ticks
  * and then switches the carrier:
  *
  *     uint32_t frame[SEAT_LONGEST];
- *     size_t length;
+ *     uint64_t length;
  *     if (seat_encode(SEAT_RC5, 1000000, 0, 12, 3, false, frame, SEAT_LONGEST, &length) == SEAT_DONE)
- *         for (size_t i = 0; i < length; i++)
+ *         for (unsigned i = 0; i < length; i++)
  *             after(frame[i], i % 2 == 0);
  *
  * Reading a pulse, in five lines. For NEC, SBP and Denon a pulse is a mark and
@@ -40,22 +41,55 @@
  *    with the length needed before it uses `frame`, and no frame has length 0.
  *    seat_test/run makes that call.
  *
- * The machine: x86-64 with the System V calling convention, as the kit compiles
- * for it. The code uses SSE2 registers and the red zone, the 128 bytes below the
- * stack pointer. So it is not to be called where interrupts run on the same
- * stack and overwrite them, nor where SSE2 registers are not saved.
+ * THE MACHINE
+ *
+ * Counts of places are 64 bits wide on every machine, and aligned to 8 bytes.
+ *
+ *  - thumbv6m-none-eabi: Cortex-M0 and other ARMv6-M. The archive needs
+ *    `__aeabi_uidiv`, `__aeabi_uldivmod`, `__aeabi_lmul` and `__aeabi_llsr`.
+ *  - thumbv7em-none-eabi: Cortex-M4 and other ARMv7E-M, with the soft-float
+ *    convention. The archive needs `__aeabi_uldivmod`.
+ *  - riscv32-unknown-elf: rv32imac, with the convention ilp32. The archive
+ *    needs `__udivdi3`.
+ *  - x86-64 with the System V calling convention: `rt staticlib seat` writes
+ *    target/staticlib/libseat.a. It needs nothing. It uses SSE2 registers and
+ *    the red zone, the 128 bytes below the stack pointer. So it is not to be
+ *    called where interrupts run on the same stack and overwrite them, nor
+ *    where SSE2 registers are not saved.
+ *
+ * What an archive needs is in the compiler's own library: gcc finds it with
+ * -lgcc. Nothing of the C library is needed.
+ *
+ * The proof speaks of the 64-bit machine. That the others answer alike is
+ * tested on emulated ones (seat_test/emulated; docs/PROMISES.md, 'What is
+ * assumed').
  *
  * Both functions end, keep nothing between calls, have no data of their own and
- * call no function of anyone's, so they may be called from several threads at
- * once. They take less than 300 bytes of stack (measured, not proved).
+ * call no function of the caller's, so they may be called from several threads
+ * at once. They take less than 450 bytes of stack (measured, not proved).
  */
 
 #ifndef DORZHIMU_SEAT_H
 #define DORZHIMU_SEAT_H
 
+#include <limits.h>
 #include <stdbool.h>
-#include <stddef.h>
 #include <stdint.h>
+
+/* What the caller's compiler must agree with. */
+#ifdef __cplusplus
+#define SEAT_AGREES(holds, what) static_assert(holds, what)
+#define SEAT_ALIGNED alignof(uint64_t)
+#else
+#define SEAT_AGREES(holds, what) _Static_assert(holds, what)
+#define SEAT_ALIGNED _Alignof(uint64_t)
+#endif
+SEAT_AGREES(CHAR_BIT == 8 && sizeof(bool) == 1, "a byte has 8 bits, and a bool is a byte");
+SEAT_AGREES(SEAT_ALIGNED == 8, "a number of 64 bits is aligned to 8 bytes");
+SEAT_AGREES(sizeof(void *) == 4 || sizeof(void *) == 8, "a pointer has 32 or 64 bits");
+#ifdef __BYTE_ORDER__
+SEAT_AGREES(__BYTE_ORDER__ == __ORDER_LITTLE_ENDIAN__, "the lowest byte comes first");
+#endif
 
 #ifdef __cplusplus
 extern "C" {
@@ -133,7 +167,7 @@ extern "C" {
  */
 uint32_t seat_encode(uint32_t protocol, uint32_t rate,
 	uint8_t address, uint8_t command, uint8_t start, bool toggle,
-	uint32_t *frame, size_t room, size_t *length);
+	uint32_t *frame, uint64_t room, uint64_t *length);
 
 /**
  * \brief Find the pulse that a duration is.
@@ -160,8 +194,8 @@ uint32_t seat_encode(uint32_t protocol, uint32_t rate,
  *
  * A refused call writes nothing: `*place` is as it was.
  *
- * Each call computes the eight spans anew, in 200 to 300 instructions (counted,
- * not proved).
+ * Each call computes the eight spans anew, in 200 to 300 instructions on x86-64
+ * and 3,000 to 4,400 on a Cortex-M0 (counted, not proved).
  *
  * \param protocol   protocol number, `SEAT_NEC` to `SEAT_DENON`.
  * \param rate       ticks a second, 1 to `SEAT_LAST_RATE`.

@@ -1,31 +1,52 @@
 /*
- * Calls seat_encode and seat_lookup from C and holds them to include/dorzhimu_seat.h.
+ * Calls seat_encode and seat_lookup from C and holds them to include/dorzhimu_seat.h, on any machine that has machine.h.
  *
- *   test CALLS ANSWERS
- *
- * CALLS and ANSWERS are the recorded list of crates/replay, its stdin and stdout: a call on each line, and the crate's answer on the same line.
- * The last line printed is the number of checks. The first failure is printed and ends it with status 1.
+ * The recorded lists are those of crates/replay, its stdin and stdout: a call on each line, and the crate's answer on the same line.
+ * The last line printed is the number of checks, and a number of all that was answered: it is the same on every machine. The first failure is
+ * printed and ends it with status 1.
  */
 #include "dorzhimu_seat.h"
-
-#include <stdio.h>
-#include <stdlib.h>
-#include <string.h>
+#include "machine.h"
 
 #define MOST_ROOM 100 /* of a recorded call */
 #define GUARD 16      /* places on either side of a lent buffer */
 #define LENT (GUARD + MOST_ROOM + GUARD)
 #define HELD 902      /* what a lent number holds before a call; refusals 2 and 1 leave it */
 
-static unsigned long checks;
+static uint32_t checks;
+
+/* All that was answered, in its order (FNV-1a, of whole numbers). */
+static uint32_t answered = 2166136261u;
+
+static void put_number(uint32_t n)
+{
+	char digits[11];
+	size_t at = sizeof digits - 1;
+
+	digits[at] = 0;
+	do {
+		digits[--at] = (char)('0' + n % 10);
+		n /= 10;
+	} while (n > 0);
+	put_text(digits + at);
+}
 
 static void check(bool good, const char *what)
 {
 	checks++;
 	if (!good) {
-		printf("seat_test: check %lu failed: %s\n", checks, what);
-		exit(1);
+		put_text("seat_test: check ");
+		put_number(checks);
+		put_text(" failed: ");
+		put_text(what);
+		put_text("\n");
+		end(1);
 	}
+}
+
+static void note(uint32_t n)
+{
+	answered = (answered ^ n) * 16777619u;
 }
 
 /* ---- one call of seat_encode, and all that the header says of it ---- */
@@ -38,7 +59,7 @@ struct command {
 
 struct answer {
 	uint32_t number;
-	size_t length; /* of the frame, or HELD */
+	uint64_t length; /* of the frame, or HELD */
 	uint32_t frame[MOST_ROOM]; /* where number is 0 */
 };
 
@@ -62,31 +83,46 @@ static void put_marks(uint32_t *lent)
 		lent[i] = mark(i);
 }
 
-static uint32_t encode(const struct command *c, uint32_t *frame, size_t room, size_t *length)
+/* One call; what it answers is noted. */
+static uint32_t encode(const struct command *c, uint32_t *frame, uint64_t room, uint64_t *length)
 {
-	return seat_encode(c->protocol, c->rate, c->address, c->command, c->start, c->toggle, frame, room, length);
+	uint32_t number = seat_encode(c->protocol, c->rate, c->address, c->command, c->start, c->toggle, frame, room, length);
+
+	note(number);
+	note((uint32_t)*length);
+	for (size_t i = 0; number == SEAT_DONE && i < *length; i++)
+		note(frame[i]);
+	return number;
+}
+
+static bool are_same(const uint32_t *one, const uint32_t *other, size_t count)
+{
+	for (size_t i = 0; i < count; i++)
+		if (one[i] != other[i])
+			return false;
+	return true;
 }
 
 /* The lent length stands between two others, and holds no frame's length before the call. */
-static void encode_gives(const struct command *c, size_t room, const struct answer *a)
+static void encode_gives(const struct command *c, uint64_t lent_room, const struct answer *a)
 {
 	uint32_t lent[LENT];
-	size_t lengths[3] = {901, HELD, 903};
-	size_t written = a->number == SEAT_DONE ? a->length : 0;
+	uint64_t lengths[3] = {901, HELD, 903};
+	size_t room = (size_t)lent_room, written = a->number == SEAT_DONE ? (size_t)a->length : 0;
 
 	put_marks(lent);
 	check(encode(c, lent + GUARD, room, &lengths[1]) == a->number, "the number that seat_encode returns");
 	check(lengths[1] == a->length, "the length that seat_encode leaves");
 	check(lengths[0] == 901 && lengths[2] == 903, "the numbers beside the length are kept");
 	check(holds_marks(lent, 0, GUARD), "the places before the frame are kept");
-	check(memcmp(lent + GUARD, a->frame, written * sizeof *lent) == 0, "the durations written");
+	check(are_same(lent + GUARD, a->frame, written), "the durations written");
 	check(holds_marks(lent, GUARD + written, GUARD + room), "the places past the frame are kept");
 	check(holds_marks(lent, GUARD + room, LENT), "the places past the room are kept");
 }
 
-static void encode_without_frame_gives(const struct command *c, uint32_t number, size_t length)
+static void encode_without_frame_gives(const struct command *c, uint32_t number, uint64_t length)
 {
-	size_t lengths[3] = {901, HELD, 903};
+	uint64_t lengths[3] = {901, HELD, 903};
 
 	check(encode(c, NULL, 0, &lengths[1]) == number, "the number with room 0 and a null frame");
 	check(lengths[1] == length, "the length with room 0 and a null frame");
@@ -100,6 +136,8 @@ static void lookup_gives(uint32_t protocol, uint32_t rate, uint64_t duration, ui
 	uint32_t places[3] = {901, HELD, 903};
 
 	check(seat_lookup(protocol, rate, duration, &places[1]) == number, "the number that seat_lookup returns");
+	note(number);
+	note(places[1]);
 	check(places[1] == place, "the place that seat_lookup leaves");
 	check(places[0] == 901 && places[2] == 903, "the numbers beside the place are kept");
 }
@@ -112,7 +150,7 @@ static const uint32_t rates_taken[] = {1, 999, 1000, 1001, 38000, 1000000, SEAT_
 static const uint32_t rates_refused[] = {0, SEAT_LAST_RATE + 1, 10000000, 0x80000000u, UINT32_MAX - 1, UINT32_MAX};
 static const uint32_t not_encoded[] = {0, SEAT_SBP, SEAT_DENON, 6, 257, 0x80000001u, UINT32_MAX};
 static const uint32_t not_looked_up[] = {0, 6, 257, 0x80000001u, UINT32_MAX};
-static const size_t rooms[] = {0, 1, 13, 66, SEAT_LONGEST, MOST_ROOM};
+static const uint64_t rooms[] = {0, 1, 13, 66, SEAT_LONGEST, MOST_ROOM};
 
 static void encode_refused(uint32_t protocol, uint32_t rate, uint32_t number)
 {
@@ -203,7 +241,7 @@ static void printed_numbers(void)
 static void longest(uint32_t protocol, uint8_t start, bool toggle, size_t least, size_t most)
 {
 	uint32_t lent[LENT];
-	size_t length;
+	uint64_t length;
 
 	put_marks(lent);
 	for (unsigned fields = 0; fields < 65536; fields++) {
@@ -227,104 +265,132 @@ static void longest_frames(void)
 
 /* ---- the recorded list ---- */
 
-struct text {
-	const char *at, *end;
-};
+#define END (-1)
+#define WORD 24
 
-/* The caller frees it. */
-static char *whole_file(const char *name, struct text *text)
+static struct read {
+	char bytes[256];
+	size_t at, got;
+	bool is_over;
+} reads[2];
+
+/* The next character of a list, or END. A line may hold any byte. */
+static int peek(enum list list)
 {
-	FILE *file = fopen(name, "rb");
-	char *bytes = NULL;
-	size_t size = 0, got = 1;
+	struct read *r = &reads[list];
 
-	while (file != NULL && got > 0) {
-		bytes = realloc(bytes, size + 65536);
-		if (bytes == NULL)
-			break;
-		got = fread(bytes + size, 1, 65536, file);
-		size += got;
+	if (r->at == r->got && !r->is_over) {
+		r->at = 0;
+		r->got = next_bytes(list, r->bytes, sizeof r->bytes);
+		r->is_over = r->got == 0;
 	}
-	if (file == NULL || bytes == NULL || ferror(file)) {
-		printf("seat_test: %s cannot be read\n", name);
-		exit(1);
+	return r->is_over ? END : (unsigned char)r->bytes[r->at];
+}
+
+static int take(enum list list)
+{
+	int c = peek(list);
+
+	if (c != END)
+		reads[list].at++;
+	return c;
+}
+
+static void skip_line(enum list list)
+{
+	int c;
+
+	do
+		c = take(list);
+	while (c != '\n' && c != END);
+}
+
+/* A word and the blank after it; what is longer is no word that is asked for. */
+static void take_word(enum list list, char word[WORD])
+{
+	size_t size = 0;
+
+	while (peek(list) != END && peek(list) != '\n' && peek(list) != ' ' && size < WORD - 1)
+		word[size++] = (char)take(list);
+	word[size] = 0;
+	if (peek(list) == ' ')
+		take(list);
+}
+
+static bool is(const char *word, const char *other)
+{
+	while (*word != 0 && *word == *other) {
+		word++;
+		other++;
 	}
-	fclose(file);
-	*text = (struct text){bytes, bytes + size};
-	return bytes;
+	return *word == *other;
 }
 
-/* The next line, without its end. A line may hold any byte. */
-static struct text next_line(struct text *rest)
+static bool takes(enum list list, const char *wanted)
 {
-	struct text line = *rest;
-	const char *end = memchr(rest->at, '\n', (size_t)(rest->end - rest->at));
+	char word[WORD];
 
-	line.end = end != NULL ? end : rest->end;
-	rest->at = end != NULL ? end + 1 : rest->end;
-	return line;
+	take_word(list, word);
+	return is(word, wanted);
 }
 
-/* Takes a word off the front of a line. */
-static bool takes(struct text *line, const char *word)
+static bool is_digit(int c)
 {
-	size_t size = strlen(word);
-
-	if ((size_t)(line->end - line->at) < size || memcmp(line->at, word, size) != 0)
-		return false;
-	line->at += size;
-	return true;
+	return c >= '0' && c <= '9';
 }
 
-/* Takes a number off the front of a line, and the blank after it. */
-static uint64_t takes_number(struct text *line)
+/* A number, and the blank after it. */
+static uint64_t take_number(enum list list)
 {
 	uint64_t n = 0;
 
-	check(line->at < line->end && *line->at >= '0' && *line->at <= '9', "a number stands in the recorded line");
-	while (line->at < line->end && *line->at >= '0' && *line->at <= '9')
-		n = n * 10 + (uint64_t)(*line->at++ - '0');
-	takes(line, " ");
+	check(is_digit(peek(list)), "a number stands in the recorded line");
+	while (is_digit(peek(list)))
+		n = n * 10 + (uint64_t)(take(list) - '0');
+	if (peek(list) == ' ')
+		take(list);
 	return n;
 }
 
-static struct answer recorded_answer(struct text line, size_t room)
+/* The rest of an answer to encode, after its first word. */
+static void take_answer(const char *word, size_t room, struct answer *a)
 {
-	struct answer a = {SEAT_DONE, HELD, {0}};
-
-	if (takes(&line, "wrote ")) {
-		a.length = (size_t)takes_number(&line);
-		check(a.length <= room, "the recorded frame has room");
-		for (size_t i = 0; i < a.length; i++)
-			a.frame[i] = (uint32_t)takes_number(&line);
+	a->number = SEAT_DONE;
+	a->length = HELD;
+	if (is(word, "wrote")) {
+		a->length = take_number(ANSWERS);
+		check(a->length <= room, "the recorded frame has room");
+		for (size_t i = 0; i < a->length; i++)
+			a->frame[i] = (uint32_t)take_number(ANSWERS);
 	} else {
-		check(takes(&line, "refused "), "a recorded answer is written or refused");
-		a.number = (uint32_t)takes_number(&line);
-		if (takes(&line, "needs "))
-			a.length = (size_t)takes_number(&line);
+		check(is(word, "refused"), "a recorded answer is written or refused");
+		a->number = (uint32_t)take_number(ANSWERS);
+		if (peek(ANSWERS) == 'n') {
+			check(takes(ANSWERS, "needs"), "a room too short tells what is needed");
+			a->length = take_number(ANSWERS);
+		}
 	}
-	check(takes(&line, "kept "), "a recorded answer tells what is kept");
-	check(takes_number(&line) == room - (a.number == SEAT_DONE ? a.length : 0), "what is kept is the rest of the room");
-	return a;
+	check(takes(ANSWERS, "kept"), "a recorded answer tells what is kept");
+	check(take_number(ANSWERS) == room - (a->number == SEAT_DONE ? a->length : 0), "what is kept is the rest of the room");
 }
 
-static unsigned long frames[SEAT_RC6 + 1]; /* recorded frames, by protocol */
+static uint32_t frames[SEAT_RC6 + 1]; /* recorded frames, by protocol */
 
-static void recorded_encode(struct text call, struct text line)
+static void recorded_encode(const char *answer)
 {
 	struct command c;
 	struct answer a;
 	size_t room;
 
-	c.protocol = (uint32_t)takes_number(&call);
-	c.rate = (uint32_t)takes_number(&call);
-	c.address = (uint8_t)takes_number(&call);
-	c.command = (uint8_t)takes_number(&call);
-	c.start = (uint8_t)takes_number(&call);
-	c.toggle = takes_number(&call) == 1;
-	room = (size_t)takes_number(&call);
+	c.protocol = (uint32_t)take_number(CALLS);
+	c.rate = (uint32_t)take_number(CALLS);
+	c.address = (uint8_t)take_number(CALLS);
+	c.command = (uint8_t)take_number(CALLS);
+	c.start = (uint8_t)take_number(CALLS);
+	c.toggle = take_number(CALLS) == 1;
+	room = (size_t)take_number(CALLS);
 	check(room <= MOST_ROOM, "the recorded room is at hand");
-	a = recorded_answer(line, room);
+	take_answer(answer, room, &a);
 	encode_gives(&c, room, &a);
 	if (a.number == SEAT_DONE) {
 		frames[c.protocol]++;
@@ -334,58 +400,55 @@ static void recorded_encode(struct text call, struct text line)
 	}
 }
 
-static void recorded_lookup(struct text call, struct text line)
+static void recorded_lookup(const char *answer)
 {
-	uint32_t protocol = (uint32_t)takes_number(&call);
-	uint32_t rate = (uint32_t)takes_number(&call);
-	uint64_t duration = takes_number(&call);
+	uint32_t protocol = (uint32_t)take_number(CALLS);
+	uint32_t rate = (uint32_t)take_number(CALLS);
+	uint64_t duration = take_number(CALLS);
 
-	if (takes(&line, "place "))
-		lookup_gives(protocol, rate, duration, SEAT_DONE, (uint32_t)takes_number(&line));
-	else if (takes(&line, "refused "))
-		lookup_gives(protocol, rate, duration, (uint32_t)takes_number(&line), HELD);
+	if (is(answer, "place"))
+		lookup_gives(protocol, rate, duration, SEAT_DONE, (uint32_t)take_number(ANSWERS));
+	else if (is(answer, "refused"))
+		lookup_gives(protocol, rate, duration, (uint32_t)take_number(ANSWERS), HELD);
 	else {
-		check(takes(&line, "none"), "a recorded answer is a place, none or refused");
+		check(is(answer, "none"), "a recorded answer is a place, none or refused");
 		lookup_gives(protocol, rate, duration, SEAT_DONE, SEAT_NO_PLACE);
 	}
 }
 
 /* Calls of another kind, and those that are not understood, are passed over. */
-static void recorded(const char *calls, const char *answers)
+static void recorded(void)
 {
-	struct text call_lines, answer_lines;
-	char *call_bytes = whole_file(calls, &call_lines), *answer_bytes = whole_file(answers, &answer_lines);
-	unsigned long lookups = 0;
+	uint32_t lookups = 0;
 
-	while (call_lines.at < call_lines.end) {
-		struct text call = next_line(&call_lines), answer = next_line(&answer_lines);
+	while (peek(CALLS) != END) {
+		char call[WORD], answer[WORD];
 
-		if (takes(&answer, "not understood"))
-			continue;
-		if (takes(&call, "encode ")) {
-			recorded_encode(call, answer);
-		} else if (takes(&call, "lookup ")) {
-			recorded_lookup(call, answer);
+		take_word(CALLS, call);
+		take_word(ANSWERS, answer);
+		if (is(call, "encode") && !is(answer, "not")) {
+			recorded_encode(answer);
+		} else if (is(call, "lookup") && !is(answer, "not")) {
+			recorded_lookup(answer);
 			lookups++;
 		}
+		skip_line(CALLS);
+		skip_line(ANSWERS);
 	}
-	check(answer_lines.at == answer_lines.end, "each recorded call has an answer");
+	check(peek(ANSWERS) == END, "each recorded call has an answer");
 	check(frames[SEAT_NEC] > 0 && frames[SEAT_RC5] > 0 && frames[SEAT_RC6] > 0 && lookups > 0, "frames of all three protocols, and lookups, are recorded");
-	free(call_bytes);
-	free(answer_bytes);
 }
 
-int main(int count, char **words)
+void run_checks(void)
 {
-	if (count != 3) {
-		printf("usage: test CALLS ANSWERS\n");
-		return 1;
-	}
 	encode_refusals();
 	lookup_refusals();
 	printed_numbers();
-	recorded(words[1], words[2]);
+	recorded();
 	longest_frames();
-	printf("%lu checks\n", checks);
-	return 0;
+	put_number(checks);
+	put_text(" checks, answers ");
+	put_number(answered);
+	put_text("\n");
+	end(0);
 }
