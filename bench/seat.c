@@ -31,20 +31,6 @@ static uint32_t number_at(size_t *at)
 	return n;
 }
 
-static void put_number(uint32_t n)
-{
-	char digits[12];
-	size_t at = sizeof digits - 1;
-
-	digits[at] = 0;
-	digits[--at] = ' ';
-	do {
-		digits[--at] = (char)('0' + n % 10);
-		n /= 10;
-	} while (n > 0);
-	put_text(digits + at);
-}
-
 /* The length of the frame of a command. */
 static uint32_t encoded(uint32_t protocol, uint8_t address, uint8_t command)
 {
@@ -107,6 +93,7 @@ void run_checks(void)
 	for (deepest = top - PAINTED; *deepest == 0x5A && deepest < top; deepest++)
 		;
 	put_number((uint32_t)(top - deepest));
+	put_text(" ");
 	put_number(sum);
 	end(0);
 }

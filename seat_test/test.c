@@ -18,19 +18,6 @@ static uint32_t checks;
 /* All that was answered, in its order (FNV-1a, of whole numbers). */
 static uint32_t answered = 2166136261u;
 
-static void put_number(uint32_t n)
-{
-	char digits[11];
-	size_t at = sizeof digits - 1;
-
-	digits[at] = 0;
-	do {
-		digits[--at] = (char)('0' + n % 10);
-		n /= 10;
-	} while (n > 0);
-	put_text(digits + at);
-}
-
 static void check(bool good, const char *what)
 {
 	checks++;

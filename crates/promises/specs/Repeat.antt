@@ -1,4 +1,4 @@
--- The captioner's question: whose bits does a repeat carry when a frame breaks and the key is held, and who clears them first?
+-- The captioner's question: whose bits a repeat carries when a frame breaks and the key is held, and who clears them first.
 -- This is about NEC through event_total, at every rate and for any edges.
 use Prim.Native.Nat.{ℕ, _+_, _^_}
 use mathlib.Core.Path.{_≡_}
