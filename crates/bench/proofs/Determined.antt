@@ -10,6 +10,7 @@ use Rattle.bench.proofs.bench_denon as bench-denon
 use Rattle.bench.proofs.bench_encode_nec as bench-encode-nec
 use Rattle.bench.proofs.bench_encode_rc5 as bench-encode-rc5
 use Rattle.bench.proofs.bench_encode_rc6 as bench-encode-rc6
+use Rattle.bench.proofs.polls.bench_polls as bench-polls
 
 add-fixed : Fixed add.ended (λ M. add.clauses) add.Symbol.routine
 add-fixed M 𝓤 H 𝓜 𝓖 𝓡 = (add.Met.met 𝓤 H 𝓜 𝓖 𝓡, λ κs a. asks-nothing 𝓤, λ κs a g h r s v w. both one one alike)
@@ -40,3 +41,6 @@ bench-encode-rc5-fixed M 𝓤 H 𝓜 𝓖 𝓡 =
 bench-encode-rc6-fixed : Fixed bench-encode-rc6.ended (λ M. bench-encode-rc6.clauses) bench-encode-rc6.Symbol.routine
 bench-encode-rc6-fixed M 𝓤 H 𝓜 𝓖 𝓡 =
     (bench-encode-rc6.Met.met 𝓤 H 𝓜 𝓖 𝓡, λ κs a. asks-nothing 𝓤, λ κs a g h r s v w. both (one & one) (one & one) (λ p q. (meet (p .0) (q .0), refl ⨾ refl ⨾ refl ⨾ refl ⨾ refl ⨾ meet (p .1) (q .1) ⨾ refl)))
+
+bench-polls-fixed : Fixed bench-polls.ended (λ M. bench-polls.clauses) bench-polls.Symbol.routine
+bench-polls-fixed M 𝓤 H 𝓜 𝓖 𝓡 = (bench-polls.Met.met 𝓤 H 𝓜 𝓖 𝓡, λ κs a. asks-nothing 𝓤, λ κs a g h r s v w. both one one alike)

@@ -1,2 +1,4 @@
 pub mod Summing
+pub mod Polling
+pub mod Calls
 pub mod Determined

@@ -1,6 +1,8 @@
 // What bench/ measures: edges through each decoder's event_total, from a fresh decoder on, the first edge rising.
-// The result is one number that every report enters. Each event_total has one caller here, so the compiler can put it into the loop.
-// And a frame of each encoder.
+// The result is one number that every report enters. And a frame of each encoder, and polls.
+// bench/ compiles edges and polls apart: so each event_total has one caller, and the compiler can put it into the loop.
+pub mod polls;
+
 use commands::Command;
 use commands::nec::NecCommand;
 use commands::rc5::Rc5Command;

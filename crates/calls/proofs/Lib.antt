@@ -1,6 +1,10 @@
 pub mod Tables
 pub mod Steps
+pub mod Runs
 pub mod Made
+pub mod Asked
+pub mod Opened
+pub mod Called
 pub mod Marks
 pub mod Frames
 pub mod Determined

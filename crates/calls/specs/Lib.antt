@@ -1,6 +1,10 @@
 pub mod Calls
 pub mod CallsSteps
 pub mod Phrases
+pub mod Parts
+pub mod Counters
+pub mod Send
+pub mod Slots
 pub mod OnSlots
 pub mod OnFrames
 pub mod CallText

@@ -1,7 +1,7 @@
 // What a call answers, as text.
+use crate::on_slots::Parts;
 use answer_text::put_part;
 use answer_text::put_phrase;
-use slots::Parts;
 ghost use mathlib.Core.Path.{_≡_};
 ghost use Rattle.text.specs.Text.{putsOf};
 ghost use Rattle.calls.specs.CallText.{answerText};
@@ -12,8 +12,8 @@ pub fn put_answer(text: &mut [u8], at: usize, parts: Parts) -> usize
     ensures left { λ _. ⌜ now (text .exit) ≡ putsOf (now (text .entry)) at (answerText parts) .0 ⌝ }
 {
     if parts.has_head {
-        let next = put_part(text, at, parts.head.first);
-        let next = put_part(text, next, parts.head.second);
+        let next = put_part(text, at, parts.first);
+        let next = put_part(text, next, parts.second);
         return put_phrase(text, next, parts.last);
     }
     put_phrase(text, at, parts.last)

@@ -1,14 +1,15 @@
 // The calls of docs/CALLS.md, by their numbers from 0, and which of them a line is.
 pub mod call_text;
+mod counters;
 pub mod on_frames;
 pub mod on_slots;
 mod phrases;
+mod send;
+mod slots;
 
 use words::Line;
 ghost use mathlib.Core.Path.{_≡_};
-ghost use mathlib.Core.Bool.{_&&_};
 ghost use Prim.Native.Nat.{_<_, _≤_};
-ghost use lib.Dec.{eqb};
 ghost use lib.ListN.{length};
 ghost use Rattle.calls.specs.Calls.{isIn, areFrom, isNamed, isCall, callOf};
 ghost use Rattle.calls.specs.CallsSteps.{callAt, rangeAt};
@@ -140,26 +141,19 @@ fn most_at(call: usize, place: usize) -> u64
     MOST[call][place]
 }
 
-// The count of a poll.
-fn is_polls(call: usize, place: usize) -> bool
-    ensures { λ r. ⌜ r ≡ (eqb call 10 && eqb place 2) ⌝ }
-{
-    (call == POLL) & (place == 2)
-}
-
 // A poll is of one level at least; every other number may be 0.
 fn least_at(call: usize, place: usize) -> u64
     requires { ⌜ (call < 15) × (place < 7) ⌝ }
     ensures { λ r. ⌜ r ≡ rangeAt call place .0 ⌝ }
 {
-    if is_polls(call, place) { 1 } else { 0 }
+    if (call == POLL) & (place == 2) { 1 } else { 0 }
 }
 
 fn is_in(call: usize, place: usize, x: u64) -> bool
     requires { ⌜ (call < 15) × (place < 7) ⌝ }
     ensures { λ r. ⌜ r ≡ isIn (rangeAt call place) x ⌝ }
 {
-    least_at(call, place) <= x && x <= most_at(call, place)
+    (least_at(call, place) <= x) & (x <= most_at(call, place))
 }
 
 // The numbers of a call are in their ranges.
@@ -183,13 +177,7 @@ fn is_named(line: Line, call: usize) -> bool
     requires { ⌜ call < 15 ⌝ }
     ensures { λ r. ⌜ r ≡ isNamed line (callAt call) ⌝ }
 {
-    if line.whole {
-        if line.name == name_at(call) {
-            return line.count == count_at(call);
-        }
-        return false;
-    }
-    false
+    line.whole & (line.name == name_at(call)) & (line.count == count_at(call))
 }
 
 fn is_call(line: Line, n: &[u64; 8], call: usize) -> bool

@@ -5,6 +5,7 @@ mod on_spans;
 
 use calls::call_of;
 use calls::call_text::put_answer;
+use calls::on_slots::Parts;
 use calls::on_slots::all_closed;
 use calls::on_slots::answered;
 use libc::STDERR_FILENO;
@@ -12,7 +13,6 @@ use libc::STDIN_FILENO;
 use libc::STDOUT_FILENO;
 use on_frames::put_encode_call;
 use on_spans::put_spans_call;
-use slots::Parts;
 use text::put;
 use words::Line;
 use words::fresh;

@@ -26,20 +26,23 @@ abbrev pub isRoom : ℕ → ℕ → Bool
 isRoom x d = leb x ((2 ^ 64 - 1 - d) / 10)
 
 abbrev pub digitOn : ℕ → ℕ → ℕ
-digitOn x d = cond (isRoom x d) (x * 10 + d) x
+digitOn x d = x * 10 + d
+
+abbrev pub isBetween : ℕ → ℕ → ℕ → Bool
+isBetween b first last = leb first b && leb b last
 
 abbrev pub isLetter : ℕ → Bool
-isLetter b = leb 97 b && leb b 122
+isLetter b = isBetween b 97 122
 
 abbrev pub isDigit : ℕ → Bool
-isDigit b = leb 48 b && leb b 57
+isDigit b = isBetween b 48 57
 
 -- a line and its numbers, after a digit of the number begun last
 abbrev pub digitFed : Line → List ℕ → ℕ → Line × List ℕ
 digitFed line numbers d =
     let last = line .count - 1 in
     let x = getD numbers last 0 in
-    cond (leb 1 (line .count) && leb (line .count) 8 && isRoom x d)
+    cond (isBetween (line .count) 1 8 && isRoom x d)
     (record { name = line .name; count = line .count; whole = true }, set numbers last (digitOn x d))
     (brokenLine, numbers)
 

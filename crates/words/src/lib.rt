@@ -1,7 +1,7 @@
 // A line of text and decimal numbers, a character at a time: what the programs read.
 ghost use mathlib.Core.Path.{_≡_};
 ghost use Prim.Native.Nat.{_%_};
-ghost use Rattle.words.specs.Words.{freshLine, brokenLine, letterOn, isBegun, isRoom, digitOn, isLetter, isDigit, digitFed, blankFed, fedOf};
+ghost use Rattle.words.specs.Words.{freshLine, brokenLine, letterOn, isBegun, isRoom, isBetween, digitFed, blankFed, fedOf};
 
 // A line of input as it is read: a name, and numbers after single blanks.
 pub struct Line {
@@ -65,16 +65,6 @@ fn is_room(x: u64, d: u8) -> bool
     x <= (0xFFFFFFFFFFFFFFFF - d as u64) / 10
 }
 
-// A number with one more digit, where there is room.
-fn with_digit(x: u64, d: u8) -> u64
-    ensures { λ r. ⌜ r ≡ digitOn x d ⌝ }
-{
-    if x <= (0xFFFFFFFFFFFFFFFF - d as u64) / 10 {
-        return x * 10 + d as u64;
-    }
-    x
-}
-
 // The low bits of a number, which are the number where it fits.
 pub fn low_32(x: u64) -> u32
     ensures { λ r. ⌜ r ≡ x % 4294967296 ⌝ }
@@ -88,16 +78,10 @@ pub fn low_8(x: u64) -> u8
     (x % 256) as u8
 }
 
-fn is_letter(b: u8) -> bool
-    ensures { λ r. ⌜ r ≡ isLetter b ⌝ }
+fn is_between(b: u8, first: u8, last: u8) -> bool
+    ensures { λ r. ⌜ r ≡ isBetween b first last ⌝ }
 {
-    b'a' <= b && b <= b'z'
-}
-
-fn is_digit(b: u8) -> bool
-    ensures { λ r. ⌜ r ≡ isDigit b ⌝ }
-{
-    b'0' <= b && b <= b'9'
+    (first <= b) & (b <= last)
 }
 
 // A digit of the number begun last.
@@ -106,15 +90,12 @@ fn digit_fed(line: Line, numbers: &mut [u64; 8], d: u8) -> Line
     ensures left { λ _. ⌜ now (numbers .exit) ≡ digitFed line (now (numbers .entry)) d .1 ⌝ }
 {
     let count = line.count;
-    if count < 1 {
-        return broken();
-    }
-    if 8 < count {
+    if !((1 <= count) & (count <= 8)) {
         return broken();
     }
     let x = numbers[count - 1];
     if is_room(x, d) {
-        numbers[count - 1] = with_digit(x, d);
+        numbers[count - 1] = x * 10 + d as u64;
         return Line {
             name: line.name,
             count,
@@ -153,12 +134,12 @@ pub fn fed(line: Line, numbers: &mut [u64; 8], b: u8) -> Line
         return blank_fed(line, numbers);
     }
     if line.count == 0 {
-        if is_letter(b) {
+        if is_between(b, b'a', b'z') {
             return with_letter(line, b);
         }
         return broken();
     }
-    if is_digit(b) {
+    if is_between(b, b'0', b'9') {
         return digit_fed(line, numbers, b - b'0');
     }
     broken()

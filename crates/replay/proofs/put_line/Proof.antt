@@ -11,4 +11,4 @@ put-line-spec =
     (λ c κs. tt)
     (λ c κs. tt)
     (λ c. search needs)
-    (λ c. search needs))
+    (λ c. tt))

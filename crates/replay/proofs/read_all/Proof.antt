@@ -1,7 +1,8 @@
 -- `replay::read_all` is safe and ends: the measure is the lines that are left. Assumes nothing.
-use mathlib.Core.Path.{_≡_, refl}
+use Prim.Native.Nat.{ℕ, _<_, _-_}
+use mathlib.Core.Path.{_≡_, refl, _∙_}
+use native.Mathlib.Omega.{arith}
 use lib.ListN.{length}
-use borrow.Author.Needs.{needs}
 use Rattle.replay.proofs.read_all.Statement.{statement}
 use Rattle.replay.proofs.read_all.Tie as tie
 
@@ -10,6 +11,45 @@ Inv-loop text₀ numbers₀ buf₀ at₀ slots₀ input₀ left₀ text numbers 
 
 abbrev μ-loop : tie.MeasureT-loop
 μ-loop text₀ numbers₀ buf₀ at₀ slots₀ input₀ left₀ text numbers buf at slots input left = left
+
+less : (n : ℕ) → 0 < n → n - 1 < n
+less n h = omega (arith, h)
+
+same-length-2 : tie.Need-same-length-2 Inv-loop μ-loop
+same-length-2 c =
+    let buf = c .before .before .before .before .before in
+    buf .buf .given ∙ buf .before .before .before .before .before .loop .inv .1
+
+same-length-3 : tie.Need-same-length-3 Inv-loop μ-loop
+same-length-3 c =
+    let text = c .before .before .before in
+    let buf = text .before .before .before .before .before .before .before .before .before .before .before .before .before .before in
+    text .text .given ∙ buf .before .before .before .before .before .loop .inv .0
+
+same-length-4 : tie.Need-same-length-4 Inv-loop μ-loop
+same-length-4 c =
+    let text = c .before .before .before in
+    let buf = text .before .before .before .before .before .before .before .before .before .before .before .before .before .before in
+    buf .buf .given ∙ buf .before .before .before .before .before .loop .inv .1
+
+sub-left : tie.Need-sub-left Inv-loop μ-loop
+sub-left c =
+    let text = c .before .before .before in
+    let buf = text .before .before .before .before .before .before .before .before .before .before .before .before .before .before in
+    buf .before .before .before .before .loop-test .taken
+
+loop-less : tie.Need-loop-less Inv-loop μ-loop
+loop-less c =
+    let text = c .before .before .before in
+    let buf = text .before .before .before .before .before .before .before .before .before .before .before .before .before .before in
+    less _ (buf .before .before .before .before .loop-test .taken)
+
+loop-again : tie.Need-loop-again Inv-loop μ-loop
+loop-again c =
+    let text = c .before .before .before in
+    let buf = text .before .before .before .before .before .before .before .before .before .before .before .before .before .before in
+    let loop = buf .before .before .before .before .before .loop in
+    (text .text .given ∙ loop .inv .0, buf .buf .given ∙ loop .inv .1)
 
 pub read-all-spec : {M : Type 1} → statement M
 read-all-spec =
@@ -21,18 +61,18 @@ read-all-spec =
     (λ c. (refl, refl))
     (λ c κs. tt)
     (λ c κs. tt)
-    (λ c. search needs)
-    (λ c. search needs)
-    (λ c. search needs)
+    (λ c. c .before .before .before .before .before .before .before .before .before .before .loop .inv .0)
+    same-length-2
+    (λ c. tt)
     (λ c κs. tt)
     (λ c κs. tt)
     (λ c κs. tt)
-    (λ c. search (needs, c .before .before .before .before .before .before .before .before .before .before .before .before .before .before .before .before .before .before .before .before .before .before .loop .inv))
-    (λ c. search (needs, c .before .before .before .before .before .before .before .before .before .before .before .before .before .before .before .before .before .before .before .before .before .before .loop .inv, c .before .before .before .before .before .before .before .before .before .before .before .before .before .before .before .before .before .buf .given))
-    (λ c. search needs)
-    (λ c. search needs)
-    (λ c. search needs)
-    (λ c. (search (needs, c .before .before .before .before .before .before .before .before .before .before .before .before .before .before .before .before .before .before .before .before .before .before .loop .inv), search (needs, c .before .before .before .before .before .before .before .before .before .before .before .before .before .before .before .before .before .before .before .before .before .before .loop .inv, c .before .before .before .before .before .before .before .before .before .before .before .before .before .before .before .before .before .buf .given)))
-    (λ c. search needs)
-    (λ c. search needs)
-    (λ c. search needs))
+    same-length-3
+    same-length-4
+    (λ c. tt)
+    sub-left
+    loop-less
+    loop-again
+    (λ c. c .before .loop .inv .0)
+    (λ c. c .before .loop .inv .1)
+    (λ c. tt))

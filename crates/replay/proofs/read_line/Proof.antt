@@ -1,7 +1,8 @@
 -- `replay::read_line` is safe and ends: the measure is the bytes that are left. Assumes nothing.
-use mathlib.Core.Path.{_≡_}
+use Prim.Native.Nat.{ℕ, _<_, _-_}
+use mathlib.Core.Path.{_≡_, refl, _∙_}
+use native.Mathlib.Omega.{arith}
 use lib.ListN.{length}
-use borrow.Author.Needs.{needs}
 use Rattle.replay.proofs.read_line.Statement.{statement}
 use Rattle.replay.proofs.read_line.Tie as tie
 
@@ -11,6 +12,24 @@ Inv-loop buf₀ numbers₀ line₀ input₀ left₀ buf numbers line input left 
 abbrev μ-loop : tie.MeasureT-loop
 μ-loop buf₀ numbers₀ line₀ input₀ left₀ buf numbers line input left = left
 
+less : (n : ℕ) → 0 < n → n - 1 < n
+less n h = omega (arith, h)
+
+same-length : tie.Need-same-length Inv-loop μ-loop
+same-length c =
+    let buf = c .before .before in
+    buf .buf .given ∙ buf .before .before .before .before .loop .inv
+
+same-length-2 : tie.Need-same-length-2 Inv-loop μ-loop
+same-length-2 c =
+    let buf = c .before .before .before .before in
+    buf .buf .given ∙ buf .before .before .before .before .loop .inv
+
+loop-again : tie.Need-loop-again Inv-loop μ-loop
+loop-again c =
+    let buf = c .before .before .before .before .before .before in
+    buf .buf .given ∙ buf .before .before .before .before .loop .inv
+
 pub read-line-spec : {M : Type 1} → statement M
 read-line-spec =
     tie.close
@@ -18,15 +37,15 @@ read-line-spec =
     Inv-loop
     μ-loop
     (λ c κs. tt)
-    (λ c. search needs)
+    (λ c. refl)
     (λ c κs. tt)
-    (λ c. search needs)
-    (λ c. search needs)
-    (λ c. search needs)
-    (λ c. search needs)
+    same-length
+    (λ c. tt)
+    same-length-2
+    (λ c. tt)
     (λ c κs. tt)
-    (λ c. search needs)
-    (λ c. search needs)
-    (λ c. search needs)
-    (λ c. search needs)
-    (λ c. search needs))
+    (λ c. c .before .before .before .before .before .before .before .before .before .loop-test .taken)
+    (λ c. less _ (c .before .before .before .before .before .before .before .before .before .loop-test .taken))
+    loop-again
+    (λ c. c .before .loop .inv)
+    (λ c. tt))

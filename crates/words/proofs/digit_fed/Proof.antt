@@ -1,44 +1,43 @@
 -- `words::digit_fed` meets its contract: each branch gives its test's value. Assumes nothing.
 use mathlib.Core.Path.{sym, _∙_}
-use borrow.Author.Tests.{le-leb, lt-leb}
-use borrow.Author.Needs.{needs}
+use native.Mathlib.Omega.{arith}
+use borrow.Author.Tests.{not-true, not-false}
+use Rattle.words.proofs.Tests.{from, place, place-fits, digit-fits, tenfold-fits}
+use Rattle.words.proofs.Bytes.{no-number, too-large, one-more}
 use Rattle.words.proofs.digit_fed.Statement.{statement}
 use Rattle.words.proofs.digit_fed.Tie as tie
 
+returns : tie.Need-returns
+returns c =
+    let a = c .before .before .args in
+    no-number (a .line) (a .numbers .now) (a .d) (not-true _ (c .before .if1 .taken)) _ (c .broken .ensures)
+
 returns-2 : tie.Need-returns-2
 returns-2 c =
-    let e = le-leb _ _ (c .before .before .if1 .left) in
-    let f = lt-leb _ _ (c .before .if2 .taken) in
-    (simp (e, f, c .broken2 .ensures), simp (e, f))
+    let a = c .before .before .before .before .args in
+    one-more (a .line) (a .numbers .now) (a .d) (not-false _ (c .before .before .before .if1 .left)) (sym (c .before .is-room .ensures) ∙ c .if2 .taken)
 
 returns-3 : tie.Need-returns-3
 returns-3 c =
-    let e = le-leb _ _ (c .before .before .before .before .before .if1 .left) in
-    let f = le-leb _ _ (c .before .before .before .before .if2 .left) in
-    let g = sym (c .before .before .is-room .ensures) ∙ c .before .if3 .taken in
-    (simp (e, f, g), simp (e, f, g, c .with-digit .ensures))
-
-returns-4 : tie.Need-returns-4
-returns-4 c =
-    let e = le-leb _ _ (c .before .before .before .before .before .if1 .left) in
-    let f = le-leb _ _ (c .before .before .before .before .if2 .left) in
-    let g = sym (c .before .before .is-room .ensures) ∙ c .before .if3 .left in
-    (simp (e, f, g, c .broken3 .ensures), simp (e, f, g))
+    let a = c .before .before .before .before .before .args in
+    let e = not-false _ (c .before .before .before .before .if1 .left) in
+    too-large (a .line) (a .numbers .now) (a .d) e (sym (c .before .before .is-room .ensures) ∙ c .before .if2 .left) _ (c .broken2 .ensures)
 
 pub digit-fed-spec : {M : Type 1} → statement M
 digit-fed-spec =
     tie.close
     (tie.spec
     (λ c κs. tt)
-    (λ c. let e = lt-leb _ _ (c .before .if1 .taken) in (simp (e, c .broken .ensures), simp e))
+    returns
+    (λ c. from _ 1 8 (not-false _ (c .if1 .left)))
+    (λ c. place-fits _ (not-false _ (c .if1 .left)))
+    (λ c. place _ (not-false _ (c .if1 .left)))
     (λ c κs. tt)
+    (λ c. tenfold-fits _ _ (sym (c .before .is-room .ensures) ∙ c .if2 .taken) (omega arith))
+    (λ c. digit-fits _ _ (sym (c .before .is-room .ensures) ∙ c .if2 .taken) (omega arith))
+    (λ c. from _ 1 8 (not-false _ (c .before .before .before .if1 .left)))
+    (λ c. place-fits _ (not-false _ (c .before .before .before .if1 .left)))
+    (λ c. place _ (not-false _ (c .before .before .before .if1 .left)))
     returns-2
-    (λ c. search needs)
-    (λ c. search needs)
     (λ c κs. tt)
-    (λ c κs. tt)
-    (λ c. search needs)
-    (λ c. search needs)
-    returns-3
-    (λ c κs. tt)
-    returns-4)
+    returns-3)

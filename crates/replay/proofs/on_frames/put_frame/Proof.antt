@@ -17,4 +17,4 @@ put-frame-spec =
     (λ c κs. tt)
     (λ c. search needs)
     (λ c. search needs)
-    (λ c. search needs))
+    (λ c. tt))

@@ -1,3 +1,0 @@
-pub mod Summing
-pub mod Calls
-pub mod Determined

@@ -1,0 +1,85 @@
+-- What each call on a decoder answers, from what is asked of it. Assumes nothing.
+use Prim.Native.Nat.{ℕ}
+use mathlib.Core.Path.{_≡_, refl, sym, ap, _∙_}
+use mathlib.Core.Bool.{Bool, true, false, cond}
+use mathlib.Core.List.{List}
+use lib.Dec.{eqb}
+use Rattle.reports.specs.declared.Report.{Report}
+use Rattle.reports.specs.Edges.{edge}
+use Rattle.protocols.specs.Decoder.{machine, edgeEvent, edgeTotal}
+use Rattle.protocols.specs.declared.decoder.Decoder.{Decoder}
+use Rattle.protocols.specs.declared.decoder.Event.{Event}
+use Rattle.protocols.specs.declared.decoder.Total.{Total}
+use Rattle.answers.specs.Answers.{statusPhrase, reportPhrase}
+use Rattle.answers.specs.declared.Phrase.{Phrase}
+use Rattle.calls.specs.Parts.{alone}
+use Rattle.calls.specs.Send.{sendAt}
+use Rattle.calls.specs.Slots.{answering, eventAt, totalAt, edgeAt, commandAt, resetAt, counterAt, askedAt}
+use Rattle.calls.specs.declared.on_slots.Parts.{Parts}
+use Rattle.calls.specs.declared.slots.DecoderAnswer.{DecoderAnswer}
+
+abbrev made : Parts → Decoder → DecoderAnswer
+made parts decoder = record { parts = parts; decoder = decoder }
+
+abbrev headed : Phrase → Phrase → Phrase → Decoder → DecoderAnswer
+headed first second last decoder =
+    record { parts = record { «has_head» = true; first = first; second = second; last = last }; decoder = decoder }
+
+-- an answer of one part, from equal parts
+pub answers : {parts : Parts} {phrase phrase′ : Phrase} {d d′ : Decoder} → parts ≡ alone phrase → phrase ≡ phrase′ → d ≡ d′ → made parts d ≡ answering phrase′ d′
+answers {phrase′ = phrase′} {d = d} h p e = (λ i. made (h i) d) ∙ (λ i. answering (p i) d) ∙ (λ i. answering phrase′ (e i))
+
+module _ (d : Decoder) (rising : Bool) (duration : ℕ) where
+  pub event-is : {e : Event} {phrase : Phrase} {parts : Parts} → e ≡ edgeEvent d (edge rising duration) → phrase ≡ statusPhrase (e .status) → parts ≡ alone phrase → made parts (e .decoder) ≡ eventAt d rising duration
+  event-is q p h = answers h p refl ∙ ap (λ (e : Event). answering (statusPhrase (e .status)) (e .decoder)) q
+
+  pub total-is : {t : Total} {phrase : Phrase} {parts : Parts} → t ≡ edgeTotal d (edge rising duration) → phrase ≡ reportPhrase (t .report) → parts ≡ alone phrase → made parts (t .decoder) ≡ totalAt d rising duration
+  total-is q p h = answers h p refl ∙ ap (λ (t : Total). answering (reportPhrase (t .report)) (t .decoder)) q
+
+  pub edge-is
+      : {e : Event} {t : Total} {command : Report} {first second last : Phrase}
+      → e ≡ edgeEvent d (edge rising duration) → t ≡ edgeTotal d (edge rising duration) → first ≡ statusPhrase (e .status)
+      → command ≡ machine .command (e .decoder .memory) → second ≡ reportPhrase command → last ≡ reportPhrase (t .report)
+      → headed first second last (t .decoder) ≡ edgeAt d rising duration
+  edge-is {t = t} q s f c g l =
+      (λ i. headed (f i) ((g ∙ ap (λ (r : Report). reportPhrase r) c) i) (l i) (t .decoder)) ∙
+      (λ i. headed (statusPhrase (q i .status)) (reportPhrase (machine .command (q i .decoder .memory))) (reportPhrase (s i .report)) (s i .decoder))
+
+pub command-is : (d : Decoder) {report : Report} {phrase : Phrase} {parts : Parts} → report ≡ machine .command (d .memory) → phrase ≡ reportPhrase report → parts ≡ alone phrase → made parts d ≡ commandAt d
+command-is d r p h = answers h (p ∙ ap (λ (x : Report). reportPhrase x) r) refl
+
+-- the answer that the call's number picks
+module _ (call : ℕ) (d : Decoder) (a b : ℕ) (n : List ℕ) {x : DecoderAnswer} where
+  pub at-event : call ≡ 4 → x ≡ eventAt d (eqb a 1) b → x ≡ askedAt call d a b n
+  unfolding askedAt
+  at-event k h = h ∙ ap (λ (c : ℕ). askedAt c d a b n) (sym k)
+
+  pub at-total : call ≡ 5 → x ≡ totalAt d (eqb a 1) b → x ≡ askedAt call d a b n
+  unfolding askedAt
+  at-total k h = h ∙ ap (λ (c : ℕ). askedAt c d a b n) (sym k)
+
+  pub at-edge : call ≡ 6 → x ≡ edgeAt d (eqb a 1) b → x ≡ askedAt call d a b n
+  unfolding askedAt
+  at-edge k h = h ∙ ap (λ (c : ℕ). askedAt c d a b n) (sym k)
+
+  pub at-reset : call ≡ 8 → x ≡ resetAt d → x ≡ askedAt call d a b n
+  unfolding askedAt
+  at-reset k h = h ∙ ap (λ (c : ℕ). askedAt c d a b n) (sym k)
+
+  pub at-counter : call ≡ 12 → x ≡ counterAt d (eqb a 1) b → x ≡ askedAt call d a b n
+  unfolding askedAt
+  at-counter k h = h ∙ ap (λ (c : ℕ). askedAt c d a b n) (sym k)
+
+  pub at-send : call ≡ 14 → x ≡ sendAt d n → x ≡ askedAt call d a b n
+  unfolding askedAt
+  at-send k h = h ∙ ap (λ (c : ℕ). askedAt c d a b n) (sym k)
+
+-- the last of some answers, where no test holds
+none : {A : Type 0} (s t u v w x : Bool) (a b c d e f z : A) → s ≡ false → t ≡ false → u ≡ false → v ≡ false → w ≡ false → x ≡ false → z ≡ cond s a (cond t b (cond u c (cond v d (cond w e (cond x f z)))))
+none s t u v w x a b c d e f z h i j k l m = simp (h, i, j, k, l, m)
+
+pub at-command
+    : (call : ℕ) (d : Decoder) (a b : ℕ) (n : List ℕ) {x : DecoderAnswer} → eqb call 4 ≡ false → eqb call 5 ≡ false → eqb call 6 ≡ false → eqb call 8 ≡ false → eqb call 12 ≡ false → eqb call 14 ≡ false
+    → x ≡ commandAt d → x ≡ askedAt call d a b n
+unfolding askedAt
+at-command call d a b n h i j k l m e = e ∙ none _ _ _ _ _ _ _ _ _ _ _ _ _ h i j k l m

@@ -1,0 +1,30 @@
+-- What open answers, by its test. Assumes nothing.
+use mathlib.Core.Path.{_≡_, sym, ap, _∙_}
+use mathlib.Core.Bool.{Bool, true, false, cond}
+use Rattle.polled.specs.declared.PolledMade.{PolledMade}
+use Rattle.answers.specs.Answers.{answerPhrase, isTaken}
+use Rattle.answers.specs.declared.Phrase.{Phrase}
+use Rattle.calls.specs.Parts.{alone}
+use Rattle.calls.specs.Slots.{openedBy, heldBy}
+use Rattle.calls.specs.declared.on_slots.Parts.{Parts}
+use Rattle.calls.specs.declared.on_slots.Slot.{Slot}
+use Rattle.calls.specs.declared.slots.SlotAnswer.{SlotAnswer}
+
+abbrev staying : Slot → Parts → SlotAnswer
+staying slot parts = record { is_open = slot .is_open; receiver = slot .receiver; parts = parts }
+
+module _ (slot : Slot) (made built : PolledMade) (e : made ≡ built) (phrase : Phrase) (p : phrase ≡ answerPhrase (made .answer)) (parts : Parts) (h : parts ≡ alone phrase) (t : Bool) (i : t ≡ isTaken (made .answer)) where
+  same : parts ≡ alone (answerPhrase (made .answer))
+  same = h ∙ ap (λ (x : Phrase). alone x) p
+
+  pub opened-taken : t ≡ true → heldBy parts (made .receiver) ≡ openedBy slot built
+  opened-taken k =
+      ap (λ (x : Parts). heldBy x (made .receiver)) same ∙
+      ap (λ (b : Bool). cond b (heldBy (alone (answerPhrase (made .answer))) (made .receiver)) (staying slot (alone (answerPhrase (made .answer))))) (sym k ∙ i) ∙
+      ap (λ (x : PolledMade). openedBy slot x) e
+
+  pub opened-refused : t ≡ false → staying slot parts ≡ openedBy slot built
+  opened-refused k =
+      ap (λ (x : Parts). staying slot x) same ∙
+      ap (λ (b : Bool). cond b (heldBy (alone (answerPhrase (made .answer))) (made .receiver)) (staying slot (alone (answerPhrase (made .answer))))) (sym k ∙ i) ∙
+      ap (λ (x : PolledMade). openedBy slot x) e

@@ -1,3 +1,0 @@
-pub mod Counters
-pub mod Slots
-pub mod Send
