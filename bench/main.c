@@ -1,6 +1,6 @@
 /* The driver of bench/run: makes edges, commands or levels and hands them to one side.
  *   main SIDE KIND PROTOCOL COUNT
- * SIDE is ours or crate. KIND is frames or noise: edges, at 1 MHz, the first one rising; encode: commands; quiet, changing or polled: levels, at 40 kHz, that
+ * SIDE is ours or crate. KIND is frames or noise: edges, at 1 MHz, the first one rising; build: decoders, handed no edge; encode: commands; quiet, changing or polled: levels, at 40 kHz, that
  * never change, change at each poll, or are those of the frames. COUNT is how many of them are handed over; prints the number that the reports, or the lengths of the
  * encoded frames, come to. Both sides get the same. All is made whatever the COUNT, so that between two COUNTs only the work differs.
  *   main SIDE KIND PROTOCOL stack
@@ -176,11 +176,19 @@ static uint64_t encode_frames(const struct row *row, int side, size_t count) {
     return sum;
 }
 
+/* decoders that are built and handed no edge */
+static uint64_t build(const struct row *row, int side, size_t count) {
+    uint64_t sum = 0;
+    for (size_t i = 0; i < count; i++) sum += row->edges[side](edges, 0, RATE);
+    return sum;
+}
+
 static uint64_t run(const struct row *row, int side, const char *kind, size_t count) {
     uint32_t protocol = (uint32_t)(row - rows) + 1;
     if (!strcmp(kind, "record")) return *row->record;
     if (!strcmp(kind, "polledrecord")) return *row->polled_record;
     if (!strcmp(kind, "encode")) return encode_frames(row, side, count);
+    if (!strcmp(kind, "build")) return build(row, side, count);
     if (!strcmp(kind, "quiet") || !strcmp(kind, "changing") || !strcmp(kind, "polled")) return row->polls[side](levels, count, protocol, 1000000 / POLL);
     return row->edges[side](edges, count, RATE);
 }
@@ -220,7 +228,7 @@ static size_t stack_of(const struct row *row, int side, const char *kind) {
 }
 
 static void make(const struct row *row, const char *kind) {
-    if (!strcmp(kind, "quiet")) return;
+    if (!strcmp(kind, "quiet") || !strcmp(kind, "build")) return;
     if (!strcmp(kind, "changing")) make_changes();
     else if (!strcmp(kind, "noise")) make_noise();
     else if (!strcmp(kind, "encode")) {

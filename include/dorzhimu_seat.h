@@ -45,20 +45,19 @@
  *
  * Counts of places are 64 bits wide on every machine, and aligned to 8 bytes.
  *
- *  - thumbv6m-none-eabi: Cortex-M0 and other ARMv6-M. The archive needs
- *    `__aeabi_uidiv`, `__aeabi_uldivmod`, `__aeabi_lmul` and `__aeabi_llsr`.
+ *  - thumbv6m-none-eabi: Cortex-M0 and other ARMv6-M.
  *  - thumbv7em-none-eabi: Cortex-M4 and other ARMv7E-M, with the soft-float
- *    convention. The archive needs `__aeabi_uldivmod`.
- *  - riscv32-unknown-elf: rv32imac, with the convention ilp32. The archive
- *    needs `__udivdi3`.
+ *    convention.
+ *  - riscv32-unknown-elf: rv32imac, with the convention ilp32.
  *  - x86-64 with the System V calling convention: `rt staticlib seat` writes
- *    target/staticlib/libseat.a. It needs nothing. It uses SSE2 registers and
- *    the red zone, the 128 bytes below the stack pointer. So it is not to be
- *    called where interrupts run on the same stack and overwrite them, nor
- *    where SSE2 registers are not saved.
+ *    target/staticlib/libseat.a. It uses SSE2 registers and the red zone, the
+ *    128 bytes below the stack pointer. So it is not to be called where
+ *    interrupts run on the same stack and overwrite them, nor where SSE2
+ *    registers are not saved.
  *
- * What an archive needs is in the compiler's own library: gcc finds it with
- * -lgcc. Nothing of the C library is needed.
+ * No archive needs anything from the linker: no routine of the compiler's own
+ * library, none that divides among them, and nothing of the C library. None has
+ * a divide instruction either.
  *
  * The proof speaks of the 64-bit machine. That the others answer alike is
  * tested on emulated ones (seat_test/emulated; docs/PROMISES.md, 'What is
@@ -66,7 +65,7 @@
  *
  * Both functions end, keep nothing between calls, have no data of their own and
  * call no function of the caller's, so they may be called from several threads
- * at once. They take less than 450 bytes of stack (measured, not proved).
+ * at once. They take less than 300 bytes of stack (measured, not proved).
  */
 
 #ifndef DORZHIMU_SEAT_H

@@ -31,22 +31,25 @@ pub fn written(encoded: Encoded) -> usize
     }
 }
 
-// A length in microseconds, in ticks of a rate. Above 1000 Hz the rate counts in whole kHz. Two numbers of 32 bits may give more than 32.
-pub fn scale(length: u32, rate: u32) -> u64
+// A length in microseconds, in ticks of a rate. Above 1000 Hz the rate counts in whole kHz: by its thousands and what is left of them, each product fits 32 bits.
+pub fn scale(length: u16, rate: u32) -> u32
     ensures { λ r. ⌜ r ≡ scaledOf length rate ⌝ }
 {
+    let length = length as u32;
     if 1000 < rate {
-        (length as u64) * ((rate / 1000) as u64) / 1000
+        let khz = quotients::by_1000(rate);
+        let mhz = quotients::by_1000(khz);
+        length * mhz + quotients::by_1000(length * (khz - mhz * 1000))
     } else {
-        (length as u64) * (rate as u64) / 1000000
+        quotients::by_15625(length * rate >> 6)
     }
 }
 
-// Whether the bit at a place is set; none is from place 64 on.
-pub fn bit(bits: u64, place: u32) -> bool
+// Whether the bit at a place is set; none is from place 32 on.
+pub fn bit(bits: u32, place: u32) -> bool
     ensures { λ r. ⌜ r ≡ bitSet bits place ⌝ }
 {
-    if place < 64 {
+    if place < 32 {
         (bits >> place) & 1 == 1
     } else {
         false

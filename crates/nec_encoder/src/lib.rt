@@ -5,16 +5,8 @@ ghost use mathlib.Core.Path.{_≡_};
 ghost use Prim.Native.Nat.{_<_, _≤_, _+_};
 ghost use lib.ListN.{length};
 ghost use lib.Seq.{sets};
-ghost use Rattle.frames.specs.Frames.{scaledOf, pairOf, pairsFrom, encodedOf, leftOf};
+ghost use Rattle.frames.specs.Frames.{pairOf, pairsFrom, encodedOf, leftOf};
 ghost use Rattle.nec_encoder.specs.Encoder.{frameOf, necFrame};
-
-// A length of the frame in ticks: at an admitted rate it fits 32 bits.
-fn ticks(length: u32, rate: u32) -> u32
-    requires { ⌜ (length ≤ 9000) × (rate ≤ 9673349) ⌝ }
-    ensures { λ r. ⌜ r ≡ scaledOf length rate ⌝ }
-{
-    frames::scale(length, rate) as u32
-}
 
 // The two durations of a bit, at a place.
 fn put_bit(out: &mut [u32], at: usize, short: u32, long: u32, one: bool)
@@ -37,7 +29,7 @@ fn put_bits(out: &mut [u32], short: u32, long: u32, bits: u32)
     let mut place: u32 = 0;
     let mut at: usize = 3;
     while place < 32 {
-        put_bit(out, at, short, long, frames::bit(bits as u64, place));
+        put_bit(out, at, short, long, frames::bit(bits, place));
         place += 1;
         at += 2;
     }
@@ -45,13 +37,13 @@ fn put_bits(out: &mut [u32], short: u32, long: u32, bits: u32)
 
 // Lays the frame of the packed bits over the front.
 fn write(out: &mut [u32], bits: u32, rate: u32)
-    requires { ⌜ (67 ≤ length (now out)) × (rate ≤ 9673349) ⌝ }
+    requires { ⌜ 67 ≤ length (now out) ⌝ }
     ensures { λ _. ⌜ now (out .exit) ≡ sets (now (out .entry)) 0 (frameOf bits rate) ⌝ }
 {
-    let leader = ticks(9000, rate);
-    let pause = ticks(4500, rate);
-    let short = ticks(560, rate);
-    let long = ticks(1690, rate);
+    let leader = frames::scale(9000, rate);
+    let pause = frames::scale(4500, rate);
+    let short = frames::scale(560, rate);
+    let long = frames::scale(1690, rate);
     out[0] = 0;
     out[1] = leader;
     out[2] = pause;

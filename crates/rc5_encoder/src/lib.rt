@@ -51,7 +51,7 @@ fn put_bits(out: &mut [u32], bits: u16, single: u32)
     let mut at: usize = 1;
     while 0 < left {
         left -= 1;
-        at = put_bit(out, at, single, frames::bit(changes as u64, left));
+        at = put_bit(out, at, single, frames::bit(changes, left));
     }
 }
 
@@ -68,7 +68,7 @@ pub fn encode(command: Rc5Command, rate: u32, out: &mut [u32]) -> Encoded
     if out.len() < needed {
         return Encoded::Short(needed);
     }
-    let single = frames::scale(889, rate) as u32;
+    let single = frames::scale(889, rate);
     out[0] = 0;
     put_bits(out, bits, single);
     Encoded::Wrote(needed)

@@ -4,11 +4,11 @@ use frames::Encoded;
 ghost use mathlib.Core.Path.{_≡_};
 ghost use mathlib.Core.List.{[], _∷_};
 ghost use mathlib.Core.Bool.{false};
-ghost use Prim.Native.Nat.{_<_, _≤_, _+_, _*_, _/_};
+ghost use Prim.Native.Nat.{_<_, _≤_, _+_, _/_};
 ghost use lib.ListN.{length};
 ghost use lib.Seq.{sets};
 ghost use Rattle.frames.specs.Frames.{encodedOf, leftOf};
-ghost use Rattle.rc6_encoder.specs.Encoder.{merged, inTicks, rc6Frame};
+ghost use Rattle.rc6_encoder.specs.Encoder.{unitOf, merged, inTicks, rc6Frame};
 ghost use Rattle.rc6_encoder.specs.EncoderSteps.{standing, written, after, joined, afterBit, wordOf, halfOf, wordLevels, wordFrame};
 
 // The level that stands, its units so far, and the place that its duration takes.
@@ -75,6 +75,14 @@ fn count(word: u32) -> usize
     (46 - u32::count_ones(word ^ word >> 1) - (word & 1)) as usize
 }
 
+// A unit of 444 microseconds at a rate. At an admitted rate 444 × rate fits 32 bits.
+fn unit(rate: u32) -> u32
+    requires { ⌜ rate ≤ 9673349 ⌝ }
+    ensures { λ r. ⌜ r ≡ unitOf rate ⌝ }
+{
+    quotients::by_15625(444 * rate >> 6)
+}
+
 // High 6 and low 2, after a low of 0.
 fn leader(out: &mut [u32], unit: u32) -> Stretch
     requires { ⌜ (2 ≤ length (now out)) × (unit ≤ 4294) ⌝ }
@@ -102,7 +110,7 @@ fn put_bits(out: &mut [u32], unit: u32, stretch: Stretch, word: u32) -> Stretch
     let mut left: u32 = 21;
     while 0 < left {
         left -= 1;
-        next = bit(out, unit, next, frames::bit(word as u64, left), half(left));
+        next = bit(out, unit, next, frames::bit(word, left), half(left));
     }
     next
 }
@@ -134,6 +142,6 @@ pub fn encode(command: Rc6Command, rate: u32, out: &mut [u32]) -> Encoded
     if out.len() < needed {
         return Encoded::Short(needed);
     }
-    write(out, 444 * rate / 1000000, word);
+    write(out, unit(rate), word);
     Encoded::Wrote(needed)
 }

@@ -1,3 +1,4 @@
+pub mod Exact
 pub mod Entries
 pub mod Determined
 pub mod Places

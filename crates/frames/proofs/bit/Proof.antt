@@ -1,4 +1,4 @@
--- `frames::bit` meets its contract: the mask is 2 ^ 1 - 1, and a number of 64 bits has none above. Assumes nothing.
+-- `frames::bit` meets its contract: the mask is 2 ^ 1 - 1, and a number of 32 bits has none above. Assumes nothing.
 use Prim.Native.Nat.{ℕ, _/_, _^_, _<_, _≤_}
 use mathlib.Core.Path.{_≡_, ap}
 use mathlib.Core.Bool.{false}
@@ -11,7 +11,7 @@ use Rattle.frames.specs.Frames.{bitSet}
 use Rattle.frames.proofs.bit.Statement.{statement}
 use Rattle.frames.proofs.bit.Tie as tie
 
-none-above : (bits place : ℕ) → bits < 2 ^ 64 → 64 ≤ place → false ≡ bitSet bits place
+none-above : (bits place : ℕ) → bits < 2 ^ 32 → 32 ≤ place → false ≡ bitSet bits place
 none-above bits place h past = rw (div-eq-of-lt (lt-of-lt-of-le h (pow-mono past)))
 
 pub bit-spec : {M : Type 1} → statement M

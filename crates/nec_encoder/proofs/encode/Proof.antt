@@ -4,7 +4,7 @@ use Prim.Native.Nat.{ℕ}
 use lib.Seq.{sets}
 use borrow.Author.Tests.{not-true, not-false}
 use Rattle.commands.specs.Nec.{packOf}
-use Rattle.frames.proofs.Answers.{rate-le, refused, short, wrote}
+use Rattle.frames.proofs.Answers.{refused, short, wrote}
 use Rattle.nec_encoder.specs.Encoder.{frameOf, necFrame}
 use Rattle.nec_encoder.proofs.Frame.{length-frame}
 use borrow.Author.Needs.{needs}
@@ -22,11 +22,6 @@ returns-2 c =
     short (start .rate) (start .out .now) (necFrame (start .command) (start .rate)) 67 (sym (length-frame (packOf (start .command)) (start .rate)))
     (sym (c .before .before .rate-taken .ensures) ∙ not-false _ (c .before .if1 .left)) (c .if2 .taken)
 
-write-requires : tie.Need-write-requires
-write-requires c κs =
-    let start = c .before .before .before .before .before .before .args in
-    (search needs, rate-le (start .rate) (sym (c .before .before .before .before .rate-taken .ensures) ∙ not-false _ (c .before .before .before .if1 .left)))
-
 returns-3 : tie.Need-returns-3
 returns-3 c =
     let start = c .before .before .before .before .before .before .before .before .before .args in
@@ -42,6 +37,6 @@ encode-spec =
     returns
     returns-2
     (λ c κs. search needs)
-    write-requires
+    (λ c κs. search needs)
     (λ c. search needs)
     returns-3)

@@ -12,12 +12,12 @@ use Rattle.nec_encoder.proofs.write.Tie as tie
 slice-write-out-3 : tie.Need-slice-write-out-3
 slice-write-out-3 c =
     let out = c .before .before .before .before .before .args .out .now in
-    omega (arith, length-sets out 0 (0 ∷ c .before .before .before .ticks .result ∷ []))
+    omega (arith, length-sets out 0 (0 ∷ c .before .before .before .scale .result ∷ []))
 
 returns : tie.Need-returns
 unfolding frameOf
 returns c =
-    rw (c .before .before .before .before .before .before .before .ticks .ensures, c .before .before .before .before .before .before .ticks2 .ensures, c .before .before .before .before .before .ticks3 .ensures, c .before .before .before .before .ticks4 .ensures)
+    rw (c .before .before .before .before .before .before .before .scale .ensures, c .before .before .before .before .before .before .scale2 .ensures, c .before .before .before .before .before .scale3 .ensures, c .before .before .before .before .scale4 .ensures)
     at (c .before .before .put-bits .ensures)
 
 pub write-spec : {M : Type 1} → statement M

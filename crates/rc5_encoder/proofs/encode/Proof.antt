@@ -26,12 +26,6 @@ returns-2 c =
     let taken = sym (c .before .before .before .before .rate-taken .ensures) ∙ not-false _ (c .before .before .before .if1 .left) in
     short (start .rate) (start .out .now) (rc5Frame (start .command) (start .rate)) (c .before .count .result) counted taken (c .if2 .taken)
 
-cast-single : tie.Need-cast-single
-cast-single c =
-    let rate = c .before .before .before .before .before .before .before .args .rate in
-    let taken = sym (c .before .before .before .before .before .rate-taken .ensures) ∙ not-false _ (c .before .before .before .before .if1 .left) in
-    record { fits = omega (arith, scaled-le 889 rate (rate-le rate taken)) }
-
 put-bits-requires : tie.Need-put-bits-requires
 put-bits-requires c κs =
     let start = c .before .before .before .before .before .before .before .before .args in
@@ -62,7 +56,6 @@ encode-spec =
     (λ c κs. search needs)
     returns-2
     (λ c κs. search needs)
-    cast-single
     (λ c. omega (arith, c .before .before .count .ensures, at-least (c .before .before .before .pack .result) 0))
     put-bits-requires
     (λ c. ap length (c .before .before .put-bits .ensures) ∙ simp (length-sets, length-set))

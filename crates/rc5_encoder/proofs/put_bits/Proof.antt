@@ -59,7 +59,6 @@ put-bits-spec =
     (λ c κs. search needs)
     (λ c. search needs)
     (λ c. search needs)
-    (λ c. search needs)
     (λ c κs. search needs)
     put-bit-requires
     (λ c. search needs)
