@@ -22,6 +22,9 @@ returns-2 c =
     short (start .rate) (start .out .now) (necFrame (start .command) (start .rate)) 67 (sym (length-frame (packOf (start .command)) (start .rate)))
     (sym (c .before .before .rate-taken .ensures) ∙ not-false _ (c .before .if1 .left)) (c .if2 .taken)
 
+write-requires : tie.Need-write-requires
+write-requires c κs = search needs
+
 returns-3 : tie.Need-returns-3
 returns-3 c =
     let start = c .before .before .before .before .before .before .before .before .before .args in
@@ -37,6 +40,6 @@ encode-spec =
     returns
     returns-2
     (λ c κs. search needs)
-    (λ c κs. search needs)
+    write-requires
     (λ c. search needs)
     returns-3)
