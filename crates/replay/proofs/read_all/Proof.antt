@@ -1,8 +1,7 @@
 -- `replay::read_all` is safe and ends: the measure is the lines that are left. Assumes nothing.
-use Prim.Native.Nat.{ℕ, _<_, _-_}
 use mathlib.Core.Path.{_≡_, refl, _∙_}
-use native.Mathlib.Omega.{arith}
 use lib.ListN.{length}
+use Rattle.replay.proofs.Less.{less}
 use Rattle.replay.proofs.read_all.Statement.{statement}
 use Rattle.replay.proofs.read_all.Tie as tie
 
@@ -11,9 +10,6 @@ Inv-loop text₀ numbers₀ buf₀ at₀ slots₀ input₀ left₀ text numbers 
 
 abbrev μ-loop : tie.MeasureT-loop
 μ-loop text₀ numbers₀ buf₀ at₀ slots₀ input₀ left₀ text numbers buf at slots input left = left
-
-less : (n : ℕ) → 0 < n → n - 1 < n
-less n h = omega (arith, h)
 
 same-length-2 : tie.Need-same-length-2 Inv-loop μ-loop
 same-length-2 c =

@@ -1,8 +1,7 @@
 -- `replay::read_line` is safe and ends: the measure is the bytes that are left. Assumes nothing.
-use Prim.Native.Nat.{ℕ, _<_, _-_}
 use mathlib.Core.Path.{_≡_, refl, _∙_}
-use native.Mathlib.Omega.{arith}
 use lib.ListN.{length}
+use Rattle.replay.proofs.Less.{less}
 use Rattle.replay.proofs.read_line.Statement.{statement}
 use Rattle.replay.proofs.read_line.Tie as tie
 
@@ -11,9 +10,6 @@ Inv-loop buf₀ numbers₀ line₀ input₀ left₀ buf numbers line input left 
 
 abbrev μ-loop : tie.MeasureT-loop
 μ-loop buf₀ numbers₀ line₀ input₀ left₀ buf numbers line input left = left
-
-less : (n : ℕ) → 0 < n → n - 1 < n
-less n h = omega (arith, h)
 
 same-length : tie.Need-same-length Inv-loop μ-loop
 same-length c =
