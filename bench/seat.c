@@ -1,7 +1,7 @@
 /*
  * What bench/seat counts, on a processor without a C library: calls of one kind. The list of calls holds one line, 'KIND PROTOCOL TIMES', with KIND
  * encode or lookup. Prints the bytes of stack that the deepest call took, and a number of all that was answered.
- * With CRATE the calls are the crate's.
+ * With CRATE the calls are the crate's. With CLOSED the frames are closed ones, of NEC alone.
  */
 #include "dorzhimu_seat.h"
 #include "machine.h"
@@ -43,7 +43,11 @@ static uint32_t encoded(uint32_t protocol, uint8_t address, uint8_t command)
 #else
 	uint64_t length = 0;
 
+#ifdef CLOSED
+	seat_encode_closed(protocol, RATE, address, command, frame, SEAT_LONGEST, &length);
+#else
 	seat_encode(protocol, RATE, address, command, 3, false, frame, SEAT_LONGEST, &length);
+#endif
 	return (uint32_t)length;
 #endif
 }

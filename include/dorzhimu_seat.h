@@ -16,6 +16,9 @@
  *         for (unsigned i = 0; i < length; i++)
  *             after(frame[i], i % 2 == 0);
  *
+ * A repeater that also sends to televisions closes its NEC frames: the call is
+ * then seat_encode_closed(SEAT_NEC, 1000000, 4, 8, frame, SEAT_LONGEST, &length).
+ *
  * Reading a pulse, in five lines. For NEC, SBP and Denon a pulse is a mark and
  * the space after it; for RC5 and RC6 it is the time between two edges:
  *
@@ -63,7 +66,7 @@
  * tested on emulated ones (seat_test/emulated; docs/PROMISES.md, 'What is
  * assumed').
  *
- * Both functions end, keep nothing between calls, have no data of their own and
+ * All functions end, keep nothing between calls, have no data of their own and
  * call no function of the caller's, so they may be called from several threads
  * at once. They take less than 300 bytes of stack (measured, not proved).
  */
@@ -119,10 +122,10 @@ extern "C" {
 /**
  * \brief The places of the longest frame.
  *
- * NEC has 67 durations, RC5 14 to 27, RC6 26 to 44. That this room is always
- * enough is proved (crates/seat/proofs/Room.antt).
+ * NEC has 67 durations, and 68 with its closing burst; RC5 has 14 to 27, RC6 26
+ * to 44. That this room is always enough is proved (crates/seat/proofs/Room.antt).
  */
-#define SEAT_LONGEST 67
+#define SEAT_LONGEST 68
 
 /** \brief The place that stands for none of the eight. */
 #define SEAT_NO_PLACE 8u
@@ -133,7 +136,8 @@ extern "C" {
  * A frame is a list of durations, in ticks of `rate`. Each is the time before
  * an edge: the edge after `frame[0]`, which is 0, rises, the next one falls,
  * and so on. Where the length is odd, as it is for NEC, the last edge rises: the
- * mark that it opens is not part of the frame, and the caller ends it.
+ * mark that it opens is not part of the frame, and the caller ends it. For NEC
+ * `seat_encode_closed` writes a frame that ends it.
  *
  * NEC takes `address` and `command`, RC6 these and `toggle`, RC5 all four fields;
  * what a protocol does not take changes nothing. RC5 has an address of 5 bits, a
@@ -169,6 +173,40 @@ uint32_t seat_encode(uint32_t protocol, uint32_t rate,
 	uint32_t *frame, uint64_t room, uint64_t *length);
 
 /**
+ * \brief Write the frame of an NEC command with its closing burst.
+ *
+ * The frame is the one that `seat_encode` writes, and one duration more: a last
+ * burst, as long as that of each bit. Public descriptions of NEC end a frame so,
+ * and televisions ignore one that does not. The frame has 68 durations, so its
+ * last edge falls: no mark is left open, and the caller has nothing to end.
+ *
+ * NEC alone has a closed form. Refusals, in the order in which they are tested,
+ * and nothing else is refused:
+ *
+ *  - `SEAT_REFUSED_PROTOCOL` (2): `protocol` is not `SEAT_NEC`. Nothing is
+ *    written: `*length` is as it was.
+ *  - `SEAT_REFUSED_RATE` (1): `rate` is 0 or above `SEAT_LAST_RATE`. Nothing is
+ *    written: `*length` is as it was.
+ *  - `SEAT_REFUSED_ROOM` (3): `room` is less than 68. `*length` is 68. With room
+ *    `SEAT_LONGEST` this does not happen.
+ *
+ * A refused call leaves the places of `frame` as they were. Where nothing is
+ * refused, `*length` is 68, and the places past the frame are as they were.
+ *
+ * \param protocol   protocol number, `SEAT_NEC`.
+ * \param rate       ticks a second, 1 to `SEAT_LAST_RATE`.
+ * \param address    address of the command.
+ * \param command    number of the command.
+ * \param frame      places that receive the durations.
+ * \param room       how many places `frame` has.
+ * \param length     receives the count written, or with refusal 3 the length needed.
+ * \return  `SEAT_DONE` (0), or the refusal number: 2, 1 or 3.
+ */
+uint32_t seat_encode_closed(uint32_t protocol, uint32_t rate,
+	uint8_t address, uint8_t command,
+	uint32_t *frame, uint64_t room, uint64_t *length);
+
+/**
  * \brief Find the pulse that a duration is.
  *
  * Each protocol has up to six pulse lengths with a tolerance about each, its
@@ -193,8 +231,8 @@ uint32_t seat_encode(uint32_t protocol, uint32_t rate,
  *
  * A refused call writes nothing: `*place` is as it was.
  *
- * Each call computes the eight spans anew, in 200 to 300 instructions on x86-64
- * and 3,000 to 4,400 on a Cortex-M0 (counted, not proved).
+ * Each call computes the eight spans anew, in some 350 instructions on x86-64 and
+ * 1,650 on a Cortex-M0 (counted, not proved).
  *
  * \param protocol   protocol number, `SEAT_NEC` to `SEAT_DENON`.
  * \param rate       ticks a second, 1 to `SEAT_LAST_RATE`.

@@ -1,5 +1,5 @@
 /*
- * Calls seat_encode and seat_lookup from C and holds them to include/dorzhimu_seat.h, on any machine that has machine.h.
+ * Calls seat_encode, seat_encode_closed and seat_lookup from C and holds them to include/dorzhimu_seat.h, on any machine that has machine.h.
  *
  * The recorded lists are those of crates/replay, its stdin and stdout: a call on each line, and the crate's answer on the same line.
  * The last line printed is the number of checks, and a number of all that was answered: it is the same on every machine. The first failure is
@@ -36,12 +36,13 @@ static void note(uint32_t n)
 	answered = (answered ^ n) * 16777619u;
 }
 
-/* ---- one call of seat_encode, and all that the header says of it ---- */
+/* ---- one call of seat_encode or of seat_encode_closed, and all that the header says of it ---- */
 
 struct command {
 	uint32_t protocol, rate;
 	uint8_t address, command, start;
 	bool toggle;
+	bool closed; /* with its closing burst, and then without start and toggle */
 };
 
 struct answer {
@@ -73,7 +74,9 @@ static void put_marks(uint32_t *lent)
 /* One call; what it answers is noted. */
 static uint32_t encode(const struct command *c, uint32_t *frame, uint64_t room, uint64_t *length)
 {
-	uint32_t number = seat_encode(c->protocol, c->rate, c->address, c->command, c->start, c->toggle, frame, room, length);
+	uint32_t number = c->closed
+		? seat_encode_closed(c->protocol, c->rate, c->address, c->command, frame, room, length)
+		: seat_encode(c->protocol, c->rate, c->address, c->command, c->start, c->toggle, frame, room, length);
 
 	note(number);
 	note((uint32_t)*length);
@@ -98,8 +101,8 @@ static void encode_gives(const struct command *c, uint64_t lent_room, const stru
 	size_t room = (size_t)lent_room, written = a->number == SEAT_DONE ? (size_t)a->length : 0;
 
 	put_marks(lent);
-	check(encode(c, lent + GUARD, room, &lengths[1]) == a->number, "the number that seat_encode returns");
-	check(lengths[1] == a->length, "the length that seat_encode leaves");
+	check(encode(c, lent + GUARD, room, &lengths[1]) == a->number, "the number that encoding returns");
+	check(lengths[1] == a->length, "the length that encoding leaves");
 	check(lengths[0] == 901 && lengths[2] == 903, "the numbers beside the length are kept");
 	check(holds_marks(lent, 0, GUARD), "the places before the frame are kept");
 	check(are_same(lent + GUARD, a->frame, written), "the durations written");
@@ -136,12 +139,13 @@ static void lookup_gives(uint32_t protocol, uint32_t rate, uint64_t duration, ui
 static const uint32_t rates_taken[] = {1, 999, 1000, 1001, 38000, 1000000, SEAT_LAST_RATE - 1, SEAT_LAST_RATE};
 static const uint32_t rates_refused[] = {0, SEAT_LAST_RATE + 1, 10000000, 0x80000000u, UINT32_MAX - 1, UINT32_MAX};
 static const uint32_t not_encoded[] = {0, SEAT_SBP, SEAT_DENON, 6, 257, 0x80000001u, UINT32_MAX};
+static const uint32_t not_closed[] = {0, SEAT_RC5, SEAT_RC6, SEAT_SBP, SEAT_DENON, 6, 257, 0x80000001u, UINT32_MAX};
 static const uint32_t not_looked_up[] = {0, 6, 257, 0x80000001u, UINT32_MAX};
-static const uint64_t rooms[] = {0, 1, 13, 66, SEAT_LONGEST, MOST_ROOM};
+static const uint64_t rooms[] = {0, 1, 13, 66, 67, SEAT_LONGEST, MOST_ROOM};
 
-static void encode_refused(uint32_t protocol, uint32_t rate, uint32_t number)
+static void encode_refused(bool closed, uint32_t protocol, uint32_t rate, uint32_t number)
 {
-	struct command c = {protocol, rate, 4, 8, 3, true};
+	struct command c = {protocol, rate, 4, 8, 3, true, closed};
 	struct answer a = {number, HELD, {0}};
 
 	for (size_t i = 0; i < COUNT(rooms); i++)
@@ -149,18 +153,27 @@ static void encode_refused(uint32_t protocol, uint32_t rate, uint32_t number)
 	encode_without_frame_gives(&c, number, HELD);
 }
 
+/* A protocol that is not encoded, at every rate. */
+static void protocol_refused(bool closed, uint32_t protocol)
+{
+	for (size_t k = 0; k < COUNT(rates_refused); k++)
+		encode_refused(closed, protocol, rates_refused[k], SEAT_REFUSED_PROTOCOL);
+	for (size_t k = 0; k < COUNT(rates_taken); k++)
+		encode_refused(closed, protocol, rates_taken[k], SEAT_REFUSED_PROTOCOL);
+}
+
 /* A wrong protocol is told before a wrong rate, and that before a room too short. */
 static void encode_refusals(void)
 {
-	for (size_t i = 0; i < COUNT(not_encoded); i++) {
-		for (size_t k = 0; k < COUNT(rates_refused); k++)
-			encode_refused(not_encoded[i], rates_refused[k], SEAT_REFUSED_PROTOCOL);
-		for (size_t k = 0; k < COUNT(rates_taken); k++)
-			encode_refused(not_encoded[i], rates_taken[k], SEAT_REFUSED_PROTOCOL);
+	for (size_t i = 0; i < COUNT(not_encoded); i++)
+		protocol_refused(false, not_encoded[i]);
+	for (size_t i = 0; i < COUNT(not_closed); i++)
+		protocol_refused(true, not_closed[i]);
+	for (size_t k = 0; k < COUNT(rates_refused); k++) {
+		for (uint32_t protocol = SEAT_NEC; protocol <= SEAT_RC6; protocol++)
+			encode_refused(false, protocol, rates_refused[k], SEAT_REFUSED_RATE);
+		encode_refused(true, SEAT_NEC, rates_refused[k], SEAT_REFUSED_RATE);
 	}
-	for (uint32_t protocol = SEAT_NEC; protocol <= SEAT_RC6; protocol++)
-		for (size_t k = 0; k < COUNT(rates_refused); k++)
-			encode_refused(protocol, rates_refused[k], SEAT_REFUSED_RATE);
 }
 
 /* Duration 0 is among those tried: the spans of a refused answer would hold it. */
@@ -210,7 +223,7 @@ static void printed_numbers(void)
 		{SEAT_RC6, 1989, 3}, {SEAT_RC6, 1990, 4}, {SEAT_RC6, 2486, 4}, {SEAT_RC6, 2487, 5}, {SEAT_RC6, 2984, 8},
 		{SEAT_RC5, 0, 2}, {SEAT_RC6, 0, 6},
 	};
-	struct command rc5 = {SEAT_RC5, 1000000, 0, 0, 3, false};
+	struct command rc5 = {SEAT_RC5, 1000000, 0, 0, 3, false, false};
 	struct answer a = {SEAT_DONE, 26, {0, 889, 889, 1778}};
 
 	for (size_t i = 0; i < COUNT(looked_up); i++)
@@ -225,15 +238,16 @@ static void printed_numbers(void)
 
 /* ---- every command has room in SEAT_LONGEST places ---- */
 
-static void longest(uint32_t protocol, uint8_t start, bool toggle, size_t least, size_t most)
+/* The frame of every address and command, into places that hold marks beside it. */
+static void longest(struct command c, size_t least, size_t most)
 {
 	uint32_t lent[LENT];
 	uint64_t length;
 
 	put_marks(lent);
 	for (unsigned fields = 0; fields < 65536; fields++) {
-		struct command c = {protocol, 1000000, (uint8_t)(fields >> 8), (uint8_t)fields, start, toggle};
-
+		c.address = (uint8_t)(fields >> 8);
+		c.command = (uint8_t)fields;
 		check(encode(&c, lent + GUARD, SEAT_LONGEST, &length) == SEAT_DONE, "the longest room is enough");
 		check(least <= length && length <= most && lent[GUARD] == 0, "a frame's length and its first duration");
 		check(holds_marks(lent, 0, GUARD) && holds_marks(lent, GUARD + most, LENT), "the places beside the longest frame are kept");
@@ -243,11 +257,31 @@ static void longest(uint32_t protocol, uint8_t start, bool toggle, size_t least,
 static void longest_frames(void)
 {
 	for (int toggle = 0; toggle <= 1; toggle++) {
-		longest(SEAT_RC5, 2, toggle == 1, 14, 27);
-		longest(SEAT_RC5, 3, toggle == 1, 14, 27);
-		longest(SEAT_RC6, 0, toggle == 1, 26, 44);
+		longest((struct command){SEAT_RC5, 1000000, 0, 0, 2, toggle == 1, false}, 14, 27);
+		longest((struct command){SEAT_RC5, 1000000, 0, 0, 3, toggle == 1, false}, 14, 27);
+		longest((struct command){SEAT_RC6, 1000000, 0, 0, 0, toggle == 1, false}, 26, 44);
 	}
-	longest(SEAT_NEC, 0, false, 67, 67);
+	longest((struct command){SEAT_NEC, 1000000, 0, 0, 0, false, false}, 67, 67);
+	longest((struct command){SEAT_NEC, 1000000, 0, 0, 0, false, true}, 68, 68);
+}
+
+/* A closed frame is the same frame and one more burst, as long as that of a bit. */
+static void closed_frames(void)
+{
+	uint32_t frame[SEAT_LONGEST], closed[SEAT_LONGEST];
+	uint64_t length, closed_length;
+
+	for (size_t i = 0; i < COUNT(rates_taken); i++) {
+		for (unsigned fields = 0; fields < 65536; fields += 257) {
+			struct command c = {SEAT_NEC, rates_taken[i], (uint8_t)(fields >> 8), (uint8_t)~fields, 0, false, false};
+
+			encode(&c, frame, SEAT_LONGEST, &length);
+			c.closed = true;
+			encode(&c, closed, SEAT_LONGEST, &closed_length);
+			check(length == 67 && closed_length == 68, "a closed frame has one more duration");
+			check(are_same(frame, closed, 67) && closed[67] == frame[3], "a closed frame is the frame and a burst");
+		}
+	}
 }
 
 /* ---- the recorded list ---- */
@@ -361,26 +395,27 @@ static void take_answer(const char *word, size_t room, struct answer *a)
 	check(take_number(ANSWERS) == room - (a->number == SEAT_DONE ? a->length : 0), "what is kept is the rest of the room");
 }
 
-static uint32_t frames[SEAT_RC6 + 1]; /* recorded frames, by protocol */
+static uint32_t frames[SEAT_RC6 + 1]; /* recorded frames, by protocol; closed ones at 0 */
 
-static void recorded_encode(const char *answer)
+static void recorded_encode(bool closed, const char *answer)
 {
 	struct command c;
 	struct answer a;
 	size_t room;
 
+	c.closed = closed;
 	c.protocol = (uint32_t)take_number(CALLS);
 	c.rate = (uint32_t)take_number(CALLS);
 	c.address = (uint8_t)take_number(CALLS);
 	c.command = (uint8_t)take_number(CALLS);
-	c.start = (uint8_t)take_number(CALLS);
-	c.toggle = take_number(CALLS) == 1;
+	c.start = closed ? 0 : (uint8_t)take_number(CALLS);
+	c.toggle = closed ? false : take_number(CALLS) == 1;
 	room = (size_t)take_number(CALLS);
 	check(room <= MOST_ROOM, "the recorded room is at hand");
 	take_answer(answer, room, &a);
 	encode_gives(&c, room, &a);
 	if (a.number == SEAT_DONE) {
-		frames[c.protocol]++;
+		frames[closed ? 0 : c.protocol]++;
 		every_room(&c, &a);
 	} else {
 		encode_without_frame_gives(&c, a.number, a.length);
@@ -414,7 +449,9 @@ static void recorded(void)
 		take_word(CALLS, call);
 		take_word(ANSWERS, answer);
 		if (is(call, "encode") && !is(answer, "not")) {
-			recorded_encode(answer);
+			recorded_encode(false, answer);
+		} else if (is(call, "closed") && !is(answer, "not")) {
+			recorded_encode(true, answer);
 		} else if (is(call, "lookup") && !is(answer, "not")) {
 			recorded_lookup(answer);
 			lookups++;
@@ -423,7 +460,9 @@ static void recorded(void)
 		skip_line(ANSWERS);
 	}
 	check(peek(ANSWERS) == END, "each recorded call has an answer");
-	check(frames[SEAT_NEC] > 0 && frames[SEAT_RC5] > 0 && frames[SEAT_RC6] > 0 && lookups > 0, "frames of all three protocols, and lookups, are recorded");
+	for (size_t i = 0; i < COUNT(frames); i++)
+		check(frames[i] > 0, "frames of all three protocols, and closed ones, are recorded");
+	check(lookups > 0, "lookups are recorded");
 }
 
 void run_checks(void)
@@ -433,6 +472,7 @@ void run_checks(void)
 	printed_numbers();
 	recorded();
 	longest_frames();
+	closed_frames();
 	put_number(checks);
 	put_text(" checks, answers ");
 	put_number(answered);

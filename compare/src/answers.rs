@@ -1,6 +1,6 @@
 //! The expected answer to each call: the crate's where its spans are document 01's,
-//! else document 01's. The answer to an encode call is in encode.rs, those to the calls on slots
-//! are in slots.rs.
+//! else document 01's. The answers to the calls on frames are in encode.rs, those to the calls on
+//! slots are in slots.rs.
 
 use std::fmt;
 use std::io::{self, BufRead, Write};
@@ -107,6 +107,7 @@ pub fn answer(call: &Call, slots: &mut Slots, text: &mut Vec<u8>) -> Source {
             duration,
         } => lookup(protocol, rate, duration),
         Call::Encode(ref call) => return encode::answer(call, text),
+        Call::ClosedFrame(ref call) => return encode::answer_closed(call, text),
         Call::Open {
             slot,
             protocol,

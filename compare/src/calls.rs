@@ -18,6 +18,8 @@ pub enum Call {
     },
     /// The durations of a frame, in a lent buffer.
     Encode(Encode),
+    /// The same of a closed frame.
+    ClosedFrame(ClosedFrame),
     /// A fresh decoder in a slot.
     Open {
         slot: usize,
@@ -93,6 +95,15 @@ pub struct Encode {
     pub room: usize,
 }
 
+/// The buffer is as for `Encode`. NEC alone has a closed frame, so there is no start and no toggle.
+pub struct ClosedFrame {
+    pub protocol: u32,
+    pub rate: u32,
+    pub address: u8,
+    pub command: u8,
+    pub room: usize,
+}
+
 impl Call {
     /// The call that a line without its newline holds; `None` where it is not understood.
     pub fn parse(line: &[u8]) -> Option<Call> {
@@ -116,6 +127,7 @@ impl fmt::Display for Call {
                 duration,
             } => write!(f, "lookup {} {} {}", protocol, rate, duration),
             Call::Encode(call) => write!(f, "encode {}", call),
+            Call::ClosedFrame(call) => write!(f, "closed {}", call),
             Call::Open {
                 slot,
                 protocol,
@@ -176,6 +188,16 @@ impl fmt::Display for Encode {
     }
 }
 
+impl fmt::Display for ClosedFrame {
+    fn fmt(&self, f: &mut fmt::Formatter) -> fmt::Result {
+        write!(
+            f,
+            "{} {} {} {} {}",
+            self.protocol, self.rate, self.address, self.command, self.room
+        )
+    }
+}
+
 impl fmt::Display for Command {
     fn fmt(&self, f: &mut fmt::Formatter) -> fmt::Result {
         write!(f, "{} {} {}", self.address, self.command, self.start)?;
@@ -213,6 +235,7 @@ impl<'a, I: Iterator<Item = &'a [u8]>> Words<I> {
                 duration: self.number()?,
             },
             b"encode" => Call::Encode(self.encode()?),
+            b"closed" => Call::ClosedFrame(self.closed_frame()?),
             b"counter" => Call::Counter {
                 slot: self.number_up_to(2 * SLOTS - 1)?,
                 is_last: self.flag()?,
@@ -264,6 +287,16 @@ impl<'a, I: Iterator<Item = &'a [u8]>> Words<I> {
             protocol: self.number()?,
             rate: self.number()?,
             command: self.command()?,
+            room: self.number_up_to(ROOM)?,
+        })
+    }
+
+    fn closed_frame(&mut self) -> Option<ClosedFrame> {
+        Some(ClosedFrame {
+            protocol: self.number()?,
+            rate: self.number()?,
+            address: self.number()?,
+            command: self.number()?,
             room: self.number_up_to(ROOM)?,
         })
     }

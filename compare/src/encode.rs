@@ -1,39 +1,60 @@
-//! The expected answer to an encode call: document 01's refusals, and the crate's frame where
-//! it is built at that rate, else document 01's.
+//! The expected answers to the calls on frames: document 01's refusals, and the crate's frame where
+//! it is built at that rate, else document 01's. A closed frame is the same and its burst.
 
 use crate::answers::Source;
-use crate::calls::Encode;
+use crate::calls::{ClosedFrame, Encode};
 use crate::encoders;
 use crate::frames::{self, Command, Frame, Kind};
 use crate::text::push;
 
+/// A frame and who gave it, or the refusal: 2 or 1.
+type Told = Result<(Frame, Source), u32>;
+
 /// Adds the answer to `text`.
 pub fn answer(call: &Encode, text: &mut Vec<u8>) -> Source {
-    let (kept, source) = answer_but_kept(call, text);
+    let admitted = frames::admit(call.protocol, call.rate);
+    let told = admitted.map(|kind| expected_frame(kind, call.rate, call.command));
+    push_told(text, told, call.room)
+}
+
+/// Adds the answer to `text`.
+pub fn answer_closed(call: &ClosedFrame, text: &mut Vec<u8>) -> Source {
+    let command = Command {
+        address: call.address,
+        command: call.command,
+        start: 0,
+        toggle: false,
+    };
+    let admitted = frames::admit_closed(call.protocol, call.rate);
+    let told = admitted.map(|kind| expected_closed_frame(kind, call.rate, command));
+    push_told(text, told, call.room)
+}
+
+fn push_told(text: &mut Vec<u8>, told: Told, room: usize) -> Source {
+    let (kept, source) = push_all_but_kept(text, told, room);
     push(text, " kept ", kept as u64);
     source
 }
 
 /// How many places are kept: all that the frame does not take.
-fn answer_but_kept(call: &Encode, text: &mut Vec<u8>) -> (usize, Source) {
-    let kind = match frames::admit(call.protocol, call.rate) {
-        Ok(kind) => kind,
+fn push_all_but_kept(text: &mut Vec<u8>, told: Told, room: usize) -> (usize, Source) {
+    let (frame, source) = match told {
+        Ok(told) => told,
         Err(refusal) => {
             push(text, "refused ", u64::from(refusal));
-            return (call.room, Source::Refused);
+            return (room, Source::Refused);
         }
     };
-    let (frame, source) = expected_frame(kind, call.rate, call.command);
     let count = frame.durations().len();
-    if call.room < count {
+    if room < count {
         push(text, "refused 3 needs ", count as u64);
-        return (call.room, Source::Refused);
+        return (room, Source::Refused);
     }
     push(text, "wrote ", count as u64);
     for &duration in frame.durations() {
         push(text, " ", duration);
     }
-    (call.room - count, source)
+    (room - count, source)
 }
 
 /// The frame and who gave it. The crate's is document 01's, or we end here.
@@ -54,4 +75,11 @@ pub fn expected_frame(kind: Kind, rate: u32, command: Command) -> (Frame, Source
         }
         None => (exact, Source::NotBuilt),
     }
+}
+
+/// The closed frame and who gave its first 67 durations. The crate has no closed form: the 68th is
+/// always by documents 01 and 02.
+pub fn expected_closed_frame(kind: Kind, rate: u32, command: Command) -> (Frame, Source) {
+    let (frame, source) = expected_frame(kind, rate, command);
+    (frames::closed_frame(frame, rate), source)
 }

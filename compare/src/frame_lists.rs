@@ -67,12 +67,11 @@ pub fn mixed_part() -> Calls {
     }))
 }
 
-/// The same at rates from the whole range, low ones as often as high ones.
+/// The same at rates of any kind.
 pub fn any_rate_part() -> Calls {
     let mut random = Random(0);
     Box::new((0..ANY_RATE).map(move |_| {
-        let spread = 1 + random.below(LAST_RATE);
-        let rate = (spread >> random.below(20)).max(1);
+        let rate = random.any_rate();
         random.encode_call(rate)
     }))
 }
@@ -85,8 +84,14 @@ impl Random {
         encode_call(kind, rate, command, self.room(needed))
     }
 
+    /// From the whole range, low ones as often as high ones.
+    pub fn any_rate(&mut self) -> u32 {
+        let spread = 1 + self.below(LAST_RATE);
+        (spread >> self.below(20)).max(1)
+    }
+
     /// By equal chances what is needed, one less, more, or any room.
-    fn room(&mut self, needed: usize) -> usize {
+    pub fn room(&mut self, needed: usize) -> usize {
         match self.below(4) {
             0 => needed,
             1 => needed - 1,

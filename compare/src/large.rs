@@ -8,7 +8,7 @@ use std::thread;
 use crate::answers::{answer, expected_spans, Counts, Source};
 use crate::calls::Call;
 use crate::document::{Protocol, PROTOCOLS};
-use crate::lists::{Calls, Part, RATES};
+use crate::lists::{Part, RATES};
 use crate::slots::{Reported, Slots};
 
 /// The answers to many calls fit it: fewer turns between us and the program.
@@ -86,8 +86,7 @@ fn compare_answers(choice: Choice, answers: &mut impl BufRead) -> Result<Vec<Tal
     let mut slots = Slots::default();
     let mut number = 0;
     for part in choice.parts {
-        let calls = part.calls(choice.times);
-        let counts = compare_part(calls, &mut slots, answers, &mut number)?;
+        let counts = compare_part(part, choice.times, &mut slots, answers, &mut number)?;
         let reported = slots.take_reported();
         all.push(Tally { counts, reported });
     }
@@ -105,7 +104,8 @@ fn compare_answers(choice: Choice, answers: &mut impl BufRead) -> Result<Vec<Tal
 
 /// `number` is that of the line before, and then of the part's last.
 fn compare_part(
-    calls: Calls,
+    part: &Part,
+    times: u32,
     slots: &mut Slots,
     answers: &mut impl BufRead,
     number: &mut u64,
@@ -113,10 +113,12 @@ fn compare_part(
     let mut counts = Counts::default();
     let mut expected = Vec::new();
     let mut actual = Vec::new();
-    for call in calls {
+    for call in part.calls(times) {
         *number += 1;
         expected.clear();
-        counts.add(answer(&call, slots, &mut expected));
+        let source = answer(&call, slots, &mut expected);
+        hold_to_request(part, &call, source, &expected)?;
+        counts.add(source);
         expected.push(b'\n');
         read_line(answers, &mut actual)?;
         if actual != expected {
@@ -124,6 +126,30 @@ fn compare_part(
         }
     }
     Ok(counts)
+}
+
+/// Where a request says what a call answers, the crate answers so, or we end here.
+fn hold_to_request(
+    part: &Part,
+    call: &Call,
+    source: Source,
+    expected: &[u8],
+) -> Result<(), String> {
+    let request = match part.request {
+        Some(request) => request(call),
+        None => return Ok(()),
+    };
+    let answered = match source {
+        Source::Crate => expected.escape_ascii().to_string(),
+        _ => "(the crate is not asked)".to_string(),
+    };
+    if answered == request {
+        return Ok(());
+    }
+    Err(format!(
+        "the crate does not answer as a request says\ncall     {}\nrequest  {}\ncrate    {}",
+        call, request, answered
+    ))
 }
 
 /// The next line with its newline; empty at the end.

@@ -3,6 +3,7 @@
 use std::collections::BTreeSet;
 
 use crate::calls::Call;
+use crate::closed_frame_lists;
 use crate::document::{self, Protocol, PROTOCOLS};
 use crate::edge_lists;
 use crate::frame_lists;
@@ -15,6 +16,8 @@ pub type Calls = Box<dyn Iterator<Item = Call> + Send>;
 pub struct Part {
     pub name: &'static str,
     make: Make,
+    /// What a request of document 02 says that each call answers, where one does.
+    pub request: Option<fn(&Call) -> String>,
 }
 
 enum Make {
@@ -34,13 +37,19 @@ impl Part {
 }
 
 /// The parts of the large run, in their order.
-pub static PARTS: [Part; 12] = [
+pub static PARTS: [Part; 14] = [
     part("spans", spans_part),
     part("nec", frame_lists::nec_part),
     part("rc5", frame_lists::rc5_part),
     part("rc6", frame_lists::rc6_part),
     part("mixed", frame_lists::mixed_part),
     part("rates", frame_lists::any_rate_part),
+    part("closed", closed_frame_lists::closed_part),
+    requested_part(
+        "closed-edges",
+        closed_frame_lists::heard_part,
+        closed_frame_lists::heard_answer,
+    ),
     longer_part("nec-edges", edge_lists::nec_part),
     longer_part("rc5-edges", edge_lists::rc5_part),
     longer_part("rc6-edges", edge_lists::rc6_part),
@@ -50,13 +59,30 @@ pub static PARTS: [Part; 12] = [
 ];
 
 const fn part(name: &'static str, calls: fn() -> Calls) -> Part {
-    let make = Make::Fixed(calls);
-    Part { name, make }
+    Part {
+        name,
+        make: Make::Fixed(calls),
+        request: None,
+    }
+}
+
+const fn requested_part(
+    name: &'static str,
+    calls: fn() -> Calls,
+    request: fn(&Call) -> String,
+) -> Part {
+    Part {
+        request: Some(request),
+        ..part(name, calls)
+    }
 }
 
 const fn longer_part(name: &'static str, calls: fn(u32) -> Calls) -> Part {
-    let make = Make::Longer(calls);
-    Part { name, make }
+    Part {
+        name,
+        make: Make::Longer(calls),
+        request: None,
+    }
 }
 
 /// The part of that name alone.

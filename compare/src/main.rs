@@ -4,6 +4,7 @@
 mod answers;
 mod calls;
 mod closed;
+mod closed_frame_lists;
 mod decoders;
 mod document;
 mod edge_kinds;

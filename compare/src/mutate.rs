@@ -37,7 +37,7 @@ const LONG_ONCE_IN: u32 = 200;
 const LENGTHS: [usize; 5] = [65_535, 65_536, 65_537, 70_000, 1 << 20];
 
 /// Edges of 8, 32, 63 and 64 bits, of slots, rooms, rates and counts, and what is no number.
-pub const EDGES: [&str; 32] = [
+pub const EDGES: [&str; 33] = [
     "0",
     "1",
     "2",
@@ -49,6 +49,7 @@ pub const EDGES: [&str; 32] = [
     "16",
     "66",
     "67",
+    "68",
     "100",
     "101",
     "255",

@@ -47,6 +47,7 @@ fn parts() -> Vec<Part> {
         ),
         ("refusals_2_and_1_in_their_order", lines(refusals())),
         ("frames", lines(recorded_frames::calls())),
+        ("closed_frames", lines(recorded_frames::closed_calls())),
         ("lines_that_are_no_call", not_understood()),
         ("leading_zeros", leading_zeros()),
         (
@@ -136,7 +137,7 @@ fn both_calls(protocol: u32, rate: u32, duration: u64) -> [Call; 2] {
 
 /// Lines that are no call, by what is wrong with them.
 #[rustfmt::skip]
-const WRONG: [&[&[u8]]; 14] = [
+const WRONG: [&[&[u8]]; 15] = [
     // Nothing, or an unknown word.
     &[b"", b" ", b"hello", b"span 1 1000000", b"spanss 1 1000000", b"Spans 1 1000000", b"1 1000000"],
     // Too few numbers.
@@ -201,6 +202,13 @@ const WRONG: [&[&[u8]]; 14] = [
         b"encode 1 1000000 4 8 0 0 4294967363", b"encode 1 1000000 4 8 0 0 18446744073709551683",
         b"encode 0 0 0 0 0 0 101", b"encode 1 0 0 0 256 0 0",
     ],
+    // The same of closed; it has no start and no toggle.
+    &[
+        b"close 1 1000000 4 8 68", b"closed", b"closed 1 1000000 4 8", b"closed 1 1000000 4 8 68 0",
+        b"closed 1 1000000 4 8 0 0 68", b"closed 1 1000000 256 8 68", b"closed 1 1000000 4 256 68",
+        b"closed 1 1000000 4 8 101", b"closed 4294967297 1000000 4 8 68", b"closed 1 4295967296 4 8 68",
+        b"closed 0 0 256 0 0", b"closed 1 0 0 0 101",
+    ],
 ];
 
 fn not_understood() -> Vec<Vec<u8>> {
@@ -219,6 +227,7 @@ fn leading_zeros() -> Vec<Vec<u8>> {
         "lookup 0001 00000000001000000 000000000000000000000013500".to_string(),
         format!("lookup 1 1000000 {}13500", "0".repeat(LONG)),
         "encode 01 0001000000 0004 008 000 00 0067".to_string(),
+        "closed 01 0001000000 0004 008 0068".to_string(),
         format!("encode 2 1000000 0 0 3 {}1 26", "0".repeat(LONG)),
     ];
     lines.map(String::into_bytes).to_vec()

@@ -1,14 +1,19 @@
 -- The same answer and the same places from equal numbers. Assumes nothing.
 use Prim.Native.Nat.{ℕ}
-use mathlib.Core.Path.{_≡_, _∙_}
+use mathlib.Core.Path.{_≡_, transport}
 use mathlib.Core.Bool.{Bool}
 use mathlib.Core.List.{List}
+use Rattle.refusals.specs.Refusals.{encodeTaken, closedTaken}
 use Rattle.frames.specs.declared.Encoded.{Encoded}
-use Rattle.protocols.specs.Encoder.{encodedBy, leftBy, frameBy}
+use Rattle.protocols.specs.Encoder.{frameBy, closedBy, encodedIf, leftIf}
 
-module _ {p p′ r r′ addr addr′ cmd cmd′ start start′ : ℕ} {lent lent′ : List ℕ} (toggle : Bool) where
-  pub same-answer : {x : Encoded} → x ≡ encodedBy p r lent (frameBy p r addr cmd start toggle) → p ≡ p′ → r ≡ r′ → lent ≡ lent′ → addr ≡ addr′ → cmd ≡ cmd′ → start ≡ start′ → x ≡ encodedBy p′ r′ lent′ (frameBy p′ r′ addr′ cmd′ start′ toggle)
-  same-answer h p r l a c s = h ∙ (λ i. encodedBy (p i) (r i) (l i) (frameBy (p i) (r i) (a i) (c i) (s i) toggle))
+-- an encoder answers x, and leaves so in the places that were lent
+abbrev Leaves : Encoded → List ℕ → Bool → ℕ → List ℕ → List ℕ → Type 0
+Leaves x left taken rate lent frame = (x ≡ encodedIf taken rate lent frame) × (left ≡ leftIf taken rate lent frame)
 
-  pub same-places : {x : List ℕ} → x ≡ leftBy p r lent (frameBy p r addr cmd start toggle) → p ≡ p′ → r ≡ r′ → lent ≡ lent′ → addr ≡ addr′ → cmd ≡ cmd′ → start ≡ start′ → x ≡ leftBy p′ r′ lent′ (frameBy p′ r′ addr′ cmd′ start′ toggle)
-  same-places h p r l a c s = h ∙ (λ i. leftBy (p i) (r i) (l i) (frameBy (p i) (r i) (a i) (c i) (s i) toggle))
+module _ {x : Encoded} {left lent lent′ : List ℕ} {p p′ r r′ addr addr′ cmd cmd′ : ℕ} where
+  pub same-frame : {start start′ : ℕ} (toggle : Bool) → Leaves x left (encodeTaken p) r lent (frameBy p r addr cmd start toggle) → p ≡ p′ → r ≡ r′ → lent ≡ lent′ → addr ≡ addr′ → cmd ≡ cmd′ → start ≡ start′ → Leaves x left (encodeTaken p′) r′ lent′ (frameBy p′ r′ addr′ cmd′ start′ toggle)
+  same-frame toggle h p r l a c s = transport (λ i. Leaves x left (encodeTaken (p i)) (r i) (l i) (frameBy (p i) (r i) (a i) (c i) (s i) toggle)) h
+
+  pub same-closed : Leaves x left (closedTaken p) r lent (closedBy r addr cmd) → p ≡ p′ → r ≡ r′ → lent ≡ lent′ → addr ≡ addr′ → cmd ≡ cmd′ → Leaves x left (closedTaken p′) r′ lent′ (closedBy r′ addr′ cmd′)
+  same-closed h p r l a c = transport (λ i. Leaves x left (closedTaken (p i)) (r i) (l i) (closedBy (r i) (a i) (c i))) h

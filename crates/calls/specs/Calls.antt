@@ -67,6 +67,7 @@ calls =
     ∷ call ("c" ∷ "o" ∷ "u" ∷ "n" ∷ "t" ∷ "e" ∷ "r" ∷ []) (eitherSlot ∷ flag ∷ word32 ∷ [])
     ∷ call ("b" ∷ "o" ∷ "u" ∷ "n" ∷ "d" ∷ "s" ∷ []) (word32 ∷ [])
     ∷ call ("s" ∷ "e" ∷ "n" ∷ "d" ∷ []) (slot ∷ byte ∷ byte ∷ byte ∷ flag ∷ word32 ∷ word32 ∷ [])
+    ∷ call ("c" ∷ "l" ∷ "o" ∷ "s" ∷ "e" ∷ "d" ∷ []) (word32 ∷ word32 ∷ byte ∷ byte ∷ room ∷ [])
     ∷ []
 
 abbrev pub isIn : Range → ℕ → Bool

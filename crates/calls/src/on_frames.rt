@@ -1,4 +1,4 @@
-// The call on frames: encode PROTOCOL RATE ADDRESS COMMAND START TOGGLE ROOM.
+// The calls on frames: encode PROTOCOL RATE ADDRESS COMMAND START TOGGLE ROOM, and closed PROTOCOL RATE ADDRESS COMMAND ROOM.
 use frames::Encoded;
 use words::low_8;
 use words::low_32;
@@ -6,7 +6,7 @@ ghost use mathlib.Core.Path.{_≡_};
 ghost use mathlib.Core.Bool.{cond};
 ghost use Prim.Native.Nat.{_≤_};
 ghost use lib.Dec.{eqb};
-ghost use Rattle.calls.specs.OnFrames.{mark, marked, unwrittenFrom, encodedAt, leftAt};
+ghost use Rattle.calls.specs.OnFrames.{mark, marked, unwrittenFrom, encodedAt, leftAt, encodedClosedAt, leftClosedAt};
 
 // What a place holds before the call.
 fn mark_of(place: usize) -> u32
@@ -60,4 +60,13 @@ pub fn encode(n: &[u64; 8], lent: &mut [u32]) -> Encoded
         n[5] == 1,
         lent,
     )
+}
+
+// The same for the frame with its closing burst.
+pub fn encode_closed(n: &[u64; 8], lent: &mut [u32]) -> Encoded
+    ensures answer { λ r. ⌜ r ≡ encodedClosedAt (now (n .entry)) (now (lent .entry)) ⌝ }
+    ensures left { λ _. ⌜ now (lent .exit) ≡ leftClosedAt (now (n .entry)) (now (lent .entry)) ⌝ }
+{
+    put_marks(lent);
+    protocols::encoder::encode_closed_by(low_32(n[0]), low_32(n[1]), low_8(n[2]), low_8(n[3]), lent)
 }

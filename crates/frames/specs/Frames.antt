@@ -31,10 +31,13 @@ pairsFrom mark short long bits (suc left) place =
 abbrev pub refusedFor : ℕ → ℕ → Encoded
 refusedFor length number = cond (eqb number refusal.shortBuffer) (Short length) (Refused number)
 
--- the answer for a rate, a lent buffer and a frame: refusals 1, then 3; or the count written
+-- the answer for a rate, so many places and a frame of so many durations: refusals 1, then 3; or the count written
+abbrev pub admittedOf : ℕ → ℕ → ℕ → Encoded
+admittedOf rate room length = inOrder (frameTests rate room length) (refusedFor length) (Wrote length)
+
+-- the same for a lent buffer and a frame
 unfoldable pub encodedOf : ℕ → List ℕ → List ℕ → Encoded
-encodedOf rate lent frame =
-    inOrder (frameTests rate (length lent) (length frame)) (refusedFor (length frame)) (Wrote (length frame))
+encodedOf rate lent frame = admittedOf rate (length lent) (length frame)
 
 -- "places past the frame keep their contents"
 abbrev pub onto : List ℕ → List ℕ → List ℕ

@@ -1,12 +1,25 @@
 // Document 01, "Frames": what all encoders share. Their answer, the scaling of NEC and RC5, and a bit of the packed command.
 ghost use mathlib.Core.Path.{_≡_};
-ghost use Rattle.frames.specs.Frames.{scaledOf, bitSet, encodedLength, writtenOf};
+ghost use Rattle.frames.specs.Frames.{scaledOf, bitSet, admittedOf, encodedLength, writtenOf};
 
 // What an encoder answers: the durations written; a refusal number; refusal 3 with the length needed.
 pub enum Encoded {
     Wrote(usize),
     Refused(u32),
     Short(usize),
+}
+
+// The answer for a frame of so many durations, which the caller writes where nothing is refused. Refusals: 1, then 3.
+pub fn admitted(rate: u32, room: usize, length: usize) -> Encoded
+    ensures { λ r. ⌜ r ≡ admittedOf rate room length ⌝ }
+{
+    if !refusals::rate_taken(rate) {
+        return Encoded::Refused(refusals::BAD_RATE);
+    }
+    if room < length {
+        return Encoded::Short(length);
+    }
+    Encoded::Wrote(length)
 }
 
 // The frame's length that an answer carries: the count written, or the length needed; refusals 1 and 2 carry none.

@@ -1,14 +1,14 @@
 -- The answers of `encode`, `spans_of` and the lookup can be read back from their numbers, so no two cases share them. By cases on the tests.
 -- A place that is found is below 8, and 8 stands for none: by induction on the places. Assumes nothing.
 use mathlib.Core.Path.{_≡_, refl}
-use mathlib.Core.Bool.{cond}
+use mathlib.Core.Bool.{Bool, cond}
 use mathlib.Core.List.{List}
 use Prim.Native.Nat.{ℕ, zero, suc, _+_}
 use native.Mathlib.Omega.{arith}
 use lib.Dec.{eqb, leb}
 use lib.ListN.{length}
 use borrow.Author.Tests.{ne-eqb}
-use Rattle.refusals.specs.Refusals.{protocolTaken, encodeTaken, rateTaken}
+use Rattle.refusals.specs.Refusals.{protocolTaken, rateTaken}
 use Rattle.spans.specs.Spans.{spansOf, refusalNumber}
 use Rattle.spans.specs.Lookup.{holds, lowestFrom, lookupOf, none, placeOf}
 use Rattle.spans.specs.declared.Spans.{Spans}
@@ -20,7 +20,7 @@ use Rattle.spans.specs.declared.SpansAnswer.{SpansAnswer}
 use Rattle.frames.specs.Frames.{encodedNumber, encodedLength}
 use Rattle.frames.specs.declared.Encoded.{Encoded}
 use Rattle.frames.specs.declared.Encoded.the-variants.{Wrote, Refused, Short}
-use Rattle.protocols.specs.Encoder.{encodedBy}
+use Rattle.protocols.specs.Encoder.{encodedIf}
 use Rattle.reports.proofs.Either.{either}
 
 -- ---- encode: 0 and the count written; 3 and the length needed; another refusal
@@ -32,12 +32,12 @@ abbrev EncodedBack : Encoded → Type 0
 EncodedBack e = encodedFrom (encodedNumber e) (encodedLength e) ≡ e
 
 pub encoded-back
-    : (protocol rate : ℕ) (lent frame : List ℕ)
-    → encodedFrom (encodedNumber (encodedBy protocol rate lent frame)) (encodedLength (encodedBy protocol rate lent frame))
-    ≡ encodedBy protocol rate lent frame
-unfolding encodedBy
-encoded-back protocol rate lent frame =
-    either EncodedBack (encodeTaken protocol)
+    : (taken : Bool) (rate : ℕ) (lent frame : List ℕ)
+    → encodedFrom (encodedNumber (encodedIf taken rate lent frame)) (encodedLength (encodedIf taken rate lent frame))
+    ≡ encodedIf taken rate lent frame
+unfolding encodedIf
+encoded-back taken rate lent frame =
+    either EncodedBack taken
     (either EncodedBack (rateTaken rate) (either EncodedBack (leb (length frame) (length lent)) refl refl) refl) refl
 
 -- ---- spans_of: 0 where nothing is refused

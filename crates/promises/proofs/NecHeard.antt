@@ -1,27 +1,27 @@
 -- Each NEC command that is sent at 1 MHz after a silence is heard. The silence is no span, so the receiver then waits in Init, whatever came before. The head
--- is a sync. Each pair of durations then adds its bit, by induction on the bits that are left. Assumes nothing.
-use mathlib.Core.Path.{_≡_, refl, sym, ap, _∙_}
+-- is a sync. Each pair of durations then adds its bit, by induction on the bits that are left. What follows the last bit, nothing or the closing burst, stands apart.
+-- Assumes nothing.
+use mathlib.Core.Path.{_≡_, refl, sym, ap, subst, _∙_}
 use mathlib.Core.Bool.{true, false, cond}
-use mathlib.Core.List.{List, [], _∷_}
+use mathlib.Core.List.{List, [], _∷_, _++_, append-nil}
 use Prim.Native.Nat.{ℕ, zero, suc, _+_, _*_, _/_, _%_, _^_, _≤_, _<_}
 use native.Mathlib.Omega.{arith}
 use native.Mathlib.Nat.{mod-lt, mod-eq-of-lt, one-mul}
 use native.Mathlib.Numerals.{add-one}
 use lib.Bits.{bitOr, or-shifted-r}
 use lib.Dec.{eqb}
-use lib.ListN.{length, drop}
+use lib.ListN.{length, drop, length-append}
 use lib.Pow.{pow-pos}
 use borrow.Author.Tests.{ne-eqb, le-leb}
 use Rattle.spans.specs.Spans.{spansOf, spansAt}
 use Rattle.commands.specs.Nec.{packOf, unpackOf}
 use Rattle.commands.specs.declared.Command.the-variants as command
-use Rattle.commands.specs.declared.nec.NecCommand.{NecCommand}
 use Rattle.commands.proofs.Laws.{nec-back, nec-fits}
 use Rattle.frames.specs.Frames.{pairsFrom}
 use Rattle.spans.specs.declared.Spans.{Spans}
 use Rattle.reports.specs.Reports.{reportNumbers}
 use Rattle.reports.specs.Edges.{edge, alternating}
-use Rattle.reports.specs.Machine.{total, runReports, runAfter}
+use Rattle.reports.specs.Machine.{event, total, runReports, runAfter}
 use Rattle.reports.specs.declared.Fault.the-variants.{Data}
 use Rattle.reports.specs.declared.Report.{Report}
 use Rattle.reports.specs.declared.Report.the-variants as report
@@ -33,7 +33,8 @@ use Rattle.nec.specs.declared.decoder.NecState.the-variants.{Init, Receiving, D
 use Rattle.nec.specs.declared.decoder.NecMemory.{NecMemory}
 use Rattle.nec.proofs.Laws.{reachable-in-reach, run-reachable}
 use Rattle.nec_encoder.proofs.Frame.{length-frame}
-use Rattle.promises.specs.Heard.{Near, none, more, Heard, NothingOrData, nothing, broken, spansAt1MHz, EveryNecHeard}
+use Rattle.promises.specs.Heard.{Near, none, more, Heard, NothingOrData, nothing, broken, spansAt1MHz}
+use Rattle.promises.specs.Heard.{NecHeardBy, key, EveryNecHeard, EveryNecClosedHeard}
 use Rattle.spans.proofs.Places.{placeAt, allRead, noneReads, reads-place, ends-place}
 use Rattle.promises.proofs.Bits.{low-more}
 use Rattle.promises.proofs.Run.{Silent, Goes, Reports, here, onward, heard, near-length}
@@ -95,46 +96,60 @@ bit-read k n (suc (suc digit)) x y q h₁ h₂ h₃ h₄ = absurd (omega arith)
 
 -- ---- the bits of a frame, one after another
 
--- nothing is reported up to the command read off the bits n, and it is the last edge's
-abbrev Wanted : ℕ → NecMemory → List ℕ → Type 0
-Wanted n m durations = Goes machine spans (Reports machine spans (command.Nec (unpackOf n false)) 0) m true durations
+-- nothing is reported up to the command read off the bits n, nor at the edges after it
+abbrev Wanted : ℕ → ℕ → NecMemory → List ℕ → Type 0
+Wanted n after m durations = Goes machine spans (Reports machine spans (command.Nec (unpackOf n false)) after) m true durations
 
-goes-on : (k n : ℕ) {bits : ℕ} (durations : List ℕ) → k < 31 → Wanted n (at (Receiving (k + 1)) bits 0) durations → Wanted n (at (afterBit k) bits 0) durations
-goes-on k n durations h g = rw (ne-eqb k 31 (omega arith)) g
+-- the same once all 32 bits are gathered, where the durations of `tail` follow
+abbrev Ends : ℕ → ℕ → List ℕ → Type 0
+Ends n after tail = (durations : List ℕ) → Near 28 tail durations → Wanted n after (at Done n 0) durations
 
--- the falling edge saves its duration, and the rising one reads the sum
-bit-edges
-    : (k n x y : ℕ) {bits saved : ℕ} (durations : List ℕ) (w : ℕ) → k ≤ 31 → bits ≡ n % 2 ^ k
-    → 560 ≤ x + 28 → x ≤ 560 + 28 → space (n / 2 ^ k % 2) ≤ y + 28 → y ≤ space (n / 2 ^ k % 2) + 28
-    → Wanted w (at (afterBit k) (n % 2 ^ (k + 1)) 0) durations → Wanted w (at (Receiving k) bits saved) (x ∷ y ∷ durations)
-unfolding stepIn
-bit-edges k n x y durations w h e h₁ h₂ h₃ h₄ g =
-    let read = bit-read k n _ x y refl h₁ h₂ h₃ h₄ in
-    onward machine spans _ true x _ (receives k h)
-    (onward machine spans _ false y _ (receives k h) (rw (e, read) g))
-
--- all 32 bits are gathered: the command is reported
-ended : (k n : ℕ) → k ≡ 31 → n < 2 ^ 32 → Wanted n (at (afterBit k) (n % 2 ^ (k + 1)) 0) []
+-- the last bit's edge is the last one
+ends : (n : ℕ) → Ends n 0 []
 unfolding runReports alternating
-ended k n last fits = rw (last, mod-eq-of-lt fits) (here machine spans refl)
+ends n [] none = here machine spans refl
 
-sent
-    : (left k n : ℕ) {bits saved : ℕ} (durations : List ℕ) → suc left + k ≡ 32 → n < 2 ^ 32 → bits ≡ n % 2 ^ k
-    → Near 28 (pairsFrom 560 560 1690 n (suc left) k) durations → Wanted n (at (Receiving k) bits saved) durations
-unfolding pairsFrom
-sent zero k n durations f fits e (more {came = x} h₁ h₂ (more {came = y} h₃ h₄ none)) =
-    bit-edges k n x y [] n (omega arith) e h₁ h₂ h₃ h₄ (ended k n (omega arith) fits)
-sent (suc left) k n durations f fits e (more {came = x} h₁ h₂ (more {came = y} {restCame = rest} h₃ h₄ near)) =
-    bit-edges k n x y rest n (omega arith) e h₁ h₂ h₃ h₄
-    (goes-on k n rest (omega arith) (sent left (k + 1) n rest (omega arith) fits refl near))
+-- the closing burst ends in a falling edge, which is saved
+ends-closed : (n : ℕ) → Ends n 1 (560 ∷ [])
+unfolding runReports alternating event total stepIn
+ends-closed n durations (more low high none) = here machine spans refl
 
--- ---- the head, and the whole
+module _ (n after : ℕ) (fits : n < 2 ^ 32) where
+  goes-on : (k : ℕ) {bits : ℕ} (durations : List ℕ) → k < 31 → Wanted n after (at (Receiving (k + 1)) bits 0) durations → Wanted n after (at (afterBit k) bits 0) durations
+  goes-on k durations h g = rw (ne-eqb k 31 (omega arith)) g
 
-headed : (n bits : ℕ) (durations : List ℕ) → n < 2 ^ 32 → Near 28 (drop 1 (frameOf n 1000000)) durations → Wanted n (at Init bits 0) durations
-unfolding frameOf stepIn
-headed n bits durations fits (more {came = x} h₁ h₂ (more {came = y} {restCame = rest} h₃ h₄ near)) =
-    onward machine spans _ true x _ waits
-    (onward machine spans _ false y _ waits (rw (is-sync (x + y) (omega arith) (omega arith)) (sent 31 0 n rest refl fits (omega arith) near)))
+  ended : (k : ℕ) (durations : List ℕ) → k ≡ 31 → Wanted n after (at Done n 0) durations → Wanted n after (at (afterBit k) (n % 2 ^ (k + 1)) 0) durations
+  ended k durations last g = rw (last, mod-eq-of-lt fits) g
+
+  -- the falling edge saves its duration, and the rising one reads the sum
+  bit-edges
+      : (k x y : ℕ) {bits saved : ℕ} (durations : List ℕ) → k ≤ 31 → bits ≡ n % 2 ^ k
+      → 560 ≤ x + 28 → x ≤ 560 + 28 → space (n / 2 ^ k % 2) ≤ y + 28 → y ≤ space (n / 2 ^ k % 2) + 28
+      → Wanted n after (at (afterBit k) (n % 2 ^ (k + 1)) 0) durations → Wanted n after (at (Receiving k) bits saved) (x ∷ y ∷ durations)
+  unfolding stepIn
+  bit-edges k x y durations h e h₁ h₂ h₃ h₄ g =
+      let read = bit-read k n _ x y refl h₁ h₂ h₃ h₄ in
+      onward machine spans _ true x _ (receives k h)
+      (onward machine spans _ false y _ (receives k h) (rw (e, read) g))
+
+  module _ (tail : List ℕ) (end : Ends n after tail) where
+    sent
+        : (left k : ℕ) {bits saved : ℕ} (durations : List ℕ) → suc left + k ≡ 32 → bits ≡ n % 2 ^ k
+        → Near 28 (pairsFrom 560 560 1690 n (suc left) k ++ tail) durations → Wanted n after (at (Receiving k) bits saved) durations
+    unfolding pairsFrom
+    sent zero k durations f e (more {came = x} h₁ h₂ (more {came = y} {restCame = rest} h₃ h₄ near)) =
+        bit-edges k x y rest (omega arith) e h₁ h₂ h₃ h₄ (ended k rest (omega arith) (end rest near))
+    sent (suc left) k durations f e (more {came = x} h₁ h₂ (more {came = y} {restCame = rest} h₃ h₄ near)) =
+        bit-edges k x y rest (omega arith) e h₁ h₂ h₃ h₄
+        (goes-on k rest (omega arith) (sent left (k + 1) rest (omega arith) refl near))
+
+    -- ---- the head, and the whole
+
+    headed : (bits : ℕ) (durations : List ℕ) → Near 28 (drop 1 (frameOf n 1000000 ++ tail)) durations → Wanted n after (at Init bits 0) durations
+    unfolding frameOf stepIn
+    headed bits durations (more {came = x} h₁ h₂ (more {came = y} {restCame = rest} h₃ h₄ near)) =
+        onward machine spans _ true x _ waits
+        (onward machine spans _ false y _ waits (rw (is-sync (x + y) (omega arith) (omega arith)) (sent 31 0 rest refl (omega arith) near)))
 
 -- The first edge ends in no span: the receiver waits in Init after it, and what it reported may be the broken frame's error.
 pub record Opened (m : NecMemory) (gap : ℕ) : Type 0 where
@@ -166,21 +181,32 @@ opened m Done gap e h g = let z : _≡_ {A = ℕ} 0 1 = cc in absurd (omega arit
 opened m RepeatDone gap e h g = let z : _≡_ {A = ℕ} 0 1 = cc in absurd (omega arith)
 opened m (Error fault) gap e h g = let z : _≡_ {A = ℕ} 0 1 = cc in absurd (omega arith)
 
-first-and-rest : (n : ℕ) → length (frameOf n 1000000) ≡ suc (length (drop 1 (frameOf n 1000000)))
+first-and-rest : (n : ℕ) (tail : List ℕ) → length (frameOf n 1000000 ++ tail) ≡ suc (length (drop 1 (frameOf n 1000000 ++ tail)))
 unfolding frameOf
-first-and-rest n = refl
+first-and-rest n tail = refl
+
+-- a frame, and what may follow it
+module _ (addr cmd : ℕ) (a : addr < 256) (c : cmd < 256) where
+  followed : (tail : List ℕ) → Ends (packOf (key addr cmd)) (length tail) tail → NecHeardBy (necFrame (key addr cmd) 1000000 ++ tail) (key addr cmd)
+  unfolding Heard
+  followed tail end earlier gap durations silent near =
+      let sent = key addr cmd in
+      let n = packOf sent in
+      let frame = necFrame sent 1000000 ++ tail in
+      let m = runAfter machine spans (machine .fresh) earlier in
+      let o = opened m (m .state) gap refl (run-reachable spans earlier) silent in
+      let go = headed n (length tail) (nec-fits sent a c) tail end (o .bits) durations near in
+      let long : length frame ≡ suc (length durations) = first-and-rest n tail ∙ ap suc (sym (near-length near)) in
+      let all : 67 + length tail ≡ length frame = omega (arith, length-frame n 1000000, length-append (necFrame sent 1000000) tail) in (
+        reportNumbers (o .first),
+        o .allowed,
+        heard machine spans frame durations gap m (o .first) (command.Nec sent) (length tail) 67 (at Init (o .bits) 0) long all (o .opened) waits
+            (rw (nec-back sent a c) at go),
+      )
 
 pub nec-heard : EveryNecHeard
-unfolding Heard
-nec-heard addr cmd a c earlier gap durations silent near =
-    let sent : NecCommand = record { addr = addr; cmd = cmd; repeat = false } in
-    let n = packOf sent in
-    let m = runAfter machine spans (machine .fresh) earlier in
-    let o = opened m (m .state) gap refl (run-reachable spans earlier) silent in
-    let go = headed n (o .bits) durations (nec-fits sent a c) near in
-    let long : length (necFrame sent 1000000) ≡ suc (length durations) = first-and-rest n ∙ ap suc (sym (near-length near)) in (
-      reportNumbers (o .first),
-      o .allowed,
-      heard machine spans (necFrame sent 1000000) durations gap m (o .first) (command.Nec sent) 0 67 (at Init (o .bits) 0) long (sym (length-frame n 1000000)) (o .opened) waits
-          (rw (nec-back sent a c) at go),
-    )
+nec-heard addr cmd a c =
+    subst (λ (frame : List ℕ). NecHeardBy frame (key addr cmd)) (append-nil (necFrame (key addr cmd) 1000000)) (followed addr cmd a c [] (ends (packOf (key addr cmd))))
+
+pub nec-closed-heard : EveryNecClosedHeard
+nec-closed-heard addr cmd a c = followed addr cmd a c (560 ∷ []) (ends-closed (packOf (key addr cmd)))

@@ -12,7 +12,7 @@ use Rattle.refusals.specs.Refusals.{encodeTaken}
 use Rattle.frames.specs.Frames.{onto}
 use Rattle.frames.specs.declared.Encoded.{Encoded}
 use Rattle.frames.specs.declared.Encoded.the-variants.{Wrote, Refused, Short}
-use Rattle.protocols.specs.Encoder.{encodedBy, leftBy}
+use Rattle.protocols.specs.Encoder.{encodedIf, leftIf, encodedBy, leftBy}
 
 -- an encoder wrote the frame: it is what stands in so many places of what it left
 pub record Written (protocol : ℕ) (frame left : List ℕ) (count : ℕ) : Type 0 where
@@ -24,11 +24,11 @@ pub record Written (protocol : ℕ) (frame left : List ℕ) (count : ℕ) : Type
 -- an encoder at 1 MHz whose frame has room
 module _ (protocol : ℕ) (lent frame : List ℕ) (room : length frame ≤ length lent) where
   picks : encodedBy protocol 1000000 lent frame ≡ cond (encodeTaken protocol) (Wrote (length frame)) (Refused 2)
-  unfolding encodedBy
+  unfolding encodedIf
   picks = rw (le-leb _ _ room)
 
   laid : encodeTaken protocol ≡ true → leftBy protocol 1000000 lent frame ≡ onto frame lent
-  unfolding leftBy
+  unfolding leftIf
   laid taken = rw (taken, le-leb _ _ room)
 
   pub written

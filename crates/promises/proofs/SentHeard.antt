@@ -29,10 +29,10 @@ use Rattle.rc5_encoder.proofs.Frame as rc5
 use Rattle.rc6_encoder.proofs.Frame as rc6
 use Rattle.promises.specs.Heard.{Near, quiet, onlyAt, Heard}
 use Rattle.promises.specs.Send.{deviated, edgesSent, noneYet, notedAll, summaryOf, heardOf, sentOf}
-use Rattle.promises.specs.Send.{OnlyHeard, SentHeard, EveryNecSent, EveryRc5Sent, EveryRc6Sent}
+use Rattle.promises.specs.Send.{OnlyHeard, SentHeard, EveryNecSent, EveryNecClosedSent, EveryRc5Sent, EveryRc6Sent}
 use Rattle.promises.specs.declared.send.Later.{Later}
 use Rattle.promises.proofs.Numbered.{nothings, among, among-numbers}
-use Rattle.promises.proofs.NecHeard.{nec-heard}
+use Rattle.promises.proofs.NecHeard.{nec-heard, nec-closed-heard}
 use Rattle.promises.proofs.Rc5Heard.{rc5-heard}
 use Rattle.promises.proofs.Rc6Heard.{rc6-heard}
 
@@ -100,6 +100,11 @@ unfolding SentHeard sentOf
 nec-sent addr cmd a c =
     sent-heard nec-own _ _ _ _ _ _ _ (nec-heard addr cmd a c) (omega arith)
 
+pub nec-closed-sent : EveryNecClosedSent
+unfolding SentHeard
+nec-closed-sent addr cmd a c =
+    sent-heard nec-own _ _ _ _ _ _ _ (nec-closed-heard addr cmd a c) (omega arith)
+
 pub rc5-sent : EveryRc5Sent
 unfolding SentHeard sentOf
 rc5-sent addr cmd start toggle a c low high =
@@ -118,10 +123,15 @@ unfolding summaryOf
 summary-decoder [] decoder = refl
 summary-decoder (first ∷ reports) decoder = refl
 
+pub heard-on
+    : (fresh : Decoder) (earlier : List Edge) (silence : ℕ) (frame deviations : List ℕ)
+    → heardOf (decoderAfter fresh earlier) silence frame deviations .decoder ≡ decoderAfter fresh (earlier ++ edgesSent silence frame deviations)
+heard-on fresh earlier silence frame deviations =
+    summary-decoder _ _ ∙ ap (decoderOf (fresh .spans)) (sym (after-joined machine (fresh .spans) (fresh .memory) earlier _))
+
 pub goes-on
     : (fresh : Decoder) (earlier : List Edge) (command : Command) (silence : ℕ) (deviations : List ℕ) → encodeTaken (protocolOf command) ≡ true
     → sentOf (decoderAfter fresh earlier) command silence deviations .decoder
     ≡ decoderAfter fresh (earlier ++ edgesSent silence (frameOf command 1000000) deviations)
 unfolding sentOf
-goes-on fresh earlier command silence deviations taken =
-    rw taken (summary-decoder _ _ ∙ ap (decoderOf (fresh .spans)) (sym (after-joined machine (fresh .spans) (fresh .memory) earlier _)))
+goes-on fresh earlier command silence deviations taken = rw taken (heard-on fresh earlier silence (frameOf command 1000000) deviations)

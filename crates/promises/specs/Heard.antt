@@ -18,7 +18,7 @@ use Rattle.reports.specs.Machine.{Machine, runReports, runAfter}
 use Rattle.reports.specs.declared.Fault.the-variants.{Data}
 use Rattle.reports.specs.declared.Report.the-variants as report
 use Rattle.nec.specs.Decoder as nec
-use Rattle.nec_encoder.specs.Encoder.{necFrame}
+use Rattle.nec_encoder.specs.Encoder.{necFrame, necClosedFrame}
 use Rattle.rc5.specs.Decoder as rc5
 use Rattle.rc5_encoder.specs.Encoder.{rc5Frame}
 use Rattle.rc6.specs.Decoder as rc6
@@ -59,12 +59,20 @@ pub data OnlyNothing : Numbers → Type 0 where
 abbrev pub spansAt1MHz : ℕ → Spans
 spansAt1MHz protocol = spansOf protocol 1000000 .spans
 
--- "NEC: address and command, repeat false". The last bit is settled at edge 67
-abbrev pub NecHeard : NecCommand → Type 0
-NecHeard sent = Heard nec.machine (spansAt1MHz 1) NothingOrData 14445 28 (necFrame sent 1000000) (command.Nec sent) 67
+-- NEC's bounds. The last bit is settled at edge 67
+abbrev pub NecHeardBy : List ℕ → NecCommand → Type 0
+NecHeardBy frame sent = Heard nec.machine (spansAt1MHz 1) NothingOrData 14445 28 frame (command.Nec sent) 67
+
+-- "NEC: address and command, repeat false"
+abbrev pub key : ℕ → ℕ → NecCommand
+key addr cmd = record { addr = addr; cmd = cmd; repeat = false }
 
 abbrev pub EveryNecHeard : Type 0
-EveryNecHeard = (addr cmd : ℕ) → addr < 256 → cmd < 256 → NecHeard (record { addr = addr; cmd = cmd; repeat = false })
+EveryNecHeard = (addr cmd : ℕ) → addr < 256 → cmd < 256 → NecHeardBy (necFrame (key addr cmd) 1000000) (key addr cmd)
+
+-- document 02, request 02: "the command still comes at the 67th edge and the 68th reports nothing"
+abbrev pub EveryNecClosedHeard : Type 0
+EveryNecClosedHeard = (addr cmd : ℕ) → addr < 256 → cmd < 256 → NecHeardBy (necClosedFrame (key addr cmd) 1000000) (key addr cmd)
 
 -- "RC5: address below 32, command below 64, start 2 or 3". The last bit is settled at the frame's last edge
 abbrev pub Rc5Heard : Rc5Command → Type 0

@@ -5,9 +5,9 @@ use mathlib.Core.Bool.{true, false}
 use mathlib.Core.List.{[], _∷_, _++_}
 use Rattle.reports.specs.Reports.{Numbers}
 use Rattle.reports.specs.Edges.{edge, alternating}
-use Rattle.promises.specs.Heard.{quiet, NothingOrData, spansAt1MHz}
+use Rattle.promises.specs.Heard.{quiet, NothingOrData, spansAt1MHz, key}
 use Rattle.promises.specs.Repeat.{opens, gathered, fresh}
-use Rattle.promises.specs.Totals.{nothing, errorData, PairsReport, key, pressed, held, pulsesOf, brokenAt, holding}
+use Rattle.promises.specs.Totals.{nothing, errorData, PairsReport, pressed, held, pulsesOf, brokenAt, holding}
 
 pub record RepeatShown : Type 0 where
   -- the shortest wrong command with no frame heard: on a fresh unit whatever key is held is address 0, command 0

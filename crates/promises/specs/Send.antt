@@ -18,10 +18,11 @@ use Rattle.reports.specs.Reports.{Numbers, reportNumbers}
 use Rattle.reports.specs.Edges.{Edge, alternating}
 use Rattle.reports.specs.declared.Report.{Report}
 use Rattle.reports.specs.declared.Report.the-variants as report
+use Rattle.nec_encoder.specs.Encoder.{necClosedFrame}
 use Rattle.protocols.specs.Decoder.{madeBy, reportsOf, decoderAfter}
 use Rattle.protocols.specs.Encoder.{frameOf}
 use Rattle.protocols.specs.declared.decoder.Decoder.{Decoder}
-use Rattle.promises.specs.Heard.{Near, OnlyNothing, NothingOrData}
+use Rattle.promises.specs.Heard.{Near, OnlyNothing, NothingOrData, key}
 use Rattle.promises.specs.declared.send.Later.{Later}
 use Rattle.promises.specs.declared.send.Sent.{Sent}
 
@@ -85,6 +86,10 @@ unfoldable pub sentOf : Decoder → Command → ℕ → List ℕ → Sent
 sentOf decoder command silence deviations =
     cond (encodeTaken (protocolOf command)) (heardOf decoder silence (frameOf command 1000000) deviations) (sentRefused badProtocol decoder)
 
+-- document 02, request 02: the closed frame of an NEC command; at 1 MHz nothing is refused
+abbrev pub closedSentOf : Decoder → NecCommand → ℕ → List ℕ → Sent
+closedSentOf decoder command silence deviations = heardOf decoder silence (necClosedFrame command 1000000) deviations
+
 -- deviations of one size for the 66 durations after a silence: two durations come too long, two too short, and so on
 abbrev pub deviationAt : ℕ → ℕ → ℕ
 deviationAt size place = cond (ltb (place % 4) 2) size ((2 ^ 32 - size) % 2 ^ 32)
@@ -108,23 +113,27 @@ leastSilence protocol = getD (0 ∷ 14446 ∷ 1956 ∷ 2984 ∷ []) protocol 0
 abbrev pub mostDeviation : ℕ → ℕ
 mostDeviation protocol = getD (0 ∷ 28 ∷ 106 ∷ 53 ∷ []) protocol 0
 
--- the decoder was fresh and then had any earlier edges; silence and deviations are within their bounds
-unfoldable pub SentHeard : Command → (Numbers → Type 0) → (reporting : ℕ) → Type 0
-SentHeard command mayReport reporting =
+-- the decoder was fresh and then had any earlier edges; silence and deviations are within their bounds; `send` is the call, of this command and frame
+unfoldable pub SentHeard : (Decoder → ℕ → List ℕ → Sent) → List ℕ → Command → (Numbers → Type 0) → (reporting : ℕ) → Type 0
+SentHeard send frame command mayReport reporting =
     let protocol = protocolOf command in
-    let frame = drop 1 (frameOf command 1000000) in
     (earlier : List Edge) (silence : ℕ) (deviations : List ℕ) → leastSilence protocol ≤ silence
-    → Near (mostDeviation protocol) frame (deviated frame deviations)
-    → OnlyHeard mayReport command reporting (sentOf (decoderAfter (madeBy protocol 1000000 .decoder) earlier) command silence deviations)
+    → Near (mostDeviation protocol) (drop 1 frame) (deviated (drop 1 frame) deviations)
+    → OnlyHeard mayReport command reporting (send (decoderAfter (madeBy protocol 1000000 .decoder) earlier) silence deviations)
 
-abbrev pub NecSent : NecCommand → Type 0
-NecSent sent = SentHeard (command.Nec sent) NothingOrData 67
+abbrev pub CommandSent : Command → (Numbers → Type 0) → (reporting : ℕ) → Type 0
+CommandSent command = SentHeard (λ decoder. sentOf decoder command) (frameOf command 1000000) command
 
 abbrev pub EveryNecSent : Type 0
-EveryNecSent = (addr cmd : ℕ) → addr < 256 → cmd < 256 → NecSent (record { addr = addr; cmd = cmd; repeat = false })
+EveryNecSent = (addr cmd : ℕ) → addr < 256 → cmd < 256 → CommandSent (command.Nec (key addr cmd)) NothingOrData 67
+
+abbrev pub EveryNecClosedSent : Type 0
+EveryNecClosedSent =
+    (addr cmd : ℕ) → addr < 256 → cmd < 256
+    → SentHeard (λ decoder. closedSentOf decoder (key addr cmd)) (necClosedFrame (key addr cmd) 1000000) (command.Nec (key addr cmd)) NothingOrData 67
 
 abbrev pub Rc5Sent : Rc5Command → Type 0
-Rc5Sent sent = SentHeard (command.Rc5 sent) OnlyNothing (length (frameOf (command.Rc5 sent) 1000000))
+Rc5Sent sent = CommandSent (command.Rc5 sent) OnlyNothing (length (frameOf (command.Rc5 sent) 1000000))
 
 abbrev pub EveryRc5Sent : Type 0
 EveryRc5Sent =
@@ -132,7 +141,7 @@ EveryRc5Sent =
     → Rc5Sent (record { addr = addr; cmd = cmd; start = start; toggle = toggle })
 
 abbrev pub Rc6Sent : Rc6Command → Type 0
-Rc6Sent sent = SentHeard (command.Rc6 sent) OnlyNothing (length (frameOf (command.Rc6 sent) 1000000) - cond (bitSet (sent .cmd) 0) 0 1)
+Rc6Sent sent = CommandSent (command.Rc6 sent) OnlyNothing (length (frameOf (command.Rc6 sent) 1000000) - cond (bitSet (sent .cmd) 0) 0 1)
 
 abbrev pub EveryRc6Sent : Type 0
 EveryRc6Sent = (addr cmd : ℕ) (toggle : Bool) → addr < 256 → cmd < 256 → Rc6Sent (record { addr = addr; cmd = cmd; toggle = toggle })

@@ -13,7 +13,7 @@ use Rattle.reports.specs.declared.Fault.the-variants.{Data}
 use Rattle.reports.specs.declared.Report.the-variants as report
 use Rattle.nec.specs.Decoder as nec
 use Rattle.nec_encoder.specs.Encoder.{necFrame}
-use Rattle.promises.specs.Heard.{spansAt1MHz}
+use Rattle.promises.specs.Heard.{spansAt1MHz, key}
 
 -- what is reported, in numbers
 abbrev pub nothing : Numbers
@@ -32,9 +32,6 @@ unfoldable pub PairsReport : List ℕ → List Numbers → Type 0
 PairsReport pulses reports =
     (pairs : List Pair) → totals pairs ≡ pulses
     → map reportNumbers (runReports nec.machine (spansAt1MHz 1) (nec.machine .fresh) (edgesOf pairs)) ≡ atPairs reports
-
-abbrev pub key : ℕ → ℕ → NecCommand
-key addr cmd = record { addr = addr; cmd = cmd; repeat = false }
 
 -- what is reported of a key: it was pressed, it is held
 abbrev pub pressed : ℕ → ℕ → Numbers

@@ -1,5 +1,6 @@
 // Demand 3 as a call. The frame of a command is sent at 1 MHz to a decoder, after a silence and with a deviation at each duration. The answer says what was reported.
 use commands::Command;
+use commands::nec::NecCommand;
 use frames::Encoded;
 use protocols::decoder::Decoder;
 use reports::Report;
@@ -9,7 +10,7 @@ ghost use lib.ListN.{length, drop};
 ghost use Rattle.frames.specs.Filled.{filled};
 ghost use Rattle.reports.specs.Edges.{alternating};
 ghost use Rattle.protocols.specs.Decoder.{decoderAfter};
-ghost use Rattle.promises.specs.Send.{cameAs, noteSome, noted, heardOf, sentRefused, sentOf, deviationAt, deviationsOf, leastSilence, mostDeviation};
+ghost use Rattle.promises.specs.Send.{cameAs, noteSome, noted, heardOf, sentRefused, sentOf, closedSentOf, deviationAt, deviationsOf, leastSilence, mostDeviation};
 
 // What the edges after the first one reported so far: the number of the first of them that reported anything (0: none did), its report, and how many others
 // did.
@@ -71,7 +72,7 @@ fn came_as(duration: u32, deviations: &[u32], at: usize) -> u32
 
 // All edges of a frame: the first after the silence, the others after the frame's durations, each with its deviation.
 fn feed(decoder: Decoder, silence: u32, frame: &[u32], deviations: &[u32]) -> Sent
-    requires { ⌜ length (now frame) ≤ 67 ⌝ }
+    requires { ⌜ length (now frame) ≤ 68 ⌝ }
     ensures { λ r. ⌜ r ≡ heardOf decoder silence (now (frame .entry)) (now (deviations .entry)) ⌝ }
 {
     let begun = decoder.event_total(true, silence);
@@ -128,6 +129,16 @@ pub fn send(decoder: Decoder, command: Command, silence: u32, deviations: &[u32]
         Encoded::Refused(number) => refused(decoder, number),
         Encoded::Short(_) => refused(decoder, refusals::SHORT_BUFFER),
     }
+}
+
+// Document 02, request 02: the same of the closed frame of an NEC command. At 1 MHz nothing is refused.
+pub fn send_closed(decoder: Decoder, command: NecCommand, silence: u32, deviations: &[u32]) -> Sent
+    ensures { λ r. ⌜ r ≡ closedSentOf decoder command silence (now (deviations .entry)) ⌝ }
+{
+    let mut frame = [0u32; 68];
+    // the closed frame takes all 68 places
+    let _encoded = nec_encoder::encode_closed(command, 1000000, &mut frame);
+    feed(decoder, silence, &frame, deviations)
 }
 
 // A decoder after any earlier edges, in alternating levels; what they report is not told.

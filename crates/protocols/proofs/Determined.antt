@@ -3,6 +3,7 @@ use mathlib.Core.Path.{refl}
 use Rattle.determined.specs.Determined.{Fixed, asks-nothing, both, one, _&_, meet, _⨾_, alike}
 use Rattle.protocols.proofs.encoder.encode as encode
 use Rattle.protocols.proofs.encoder.encode_by as encode-by
+use Rattle.protocols.proofs.encoder.encode_closed_by as encode-closed-by
 use Rattle.protocols.proofs.decoder.past_end as past-end
 use Rattle.protocols.proofs.decoder.event_in as event-in
 use Rattle.protocols.proofs.decoder.command_in as command-in
@@ -21,6 +22,10 @@ encode-fixed M 𝓤 H 𝓜 𝓖 𝓡 =
 encode-by-fixed : Fixed encode-by.ended (λ M. encode-by.clauses) encode-by.Symbol.routine
 encode-by-fixed M 𝓤 H 𝓜 𝓖 𝓡 =
     (encode-by.Met.met 𝓤 H 𝓜 𝓖 𝓡, λ κs a. asks-nothing 𝓤, λ κs a g h r s v w. both (one & one) (one & one) (λ p q. (meet (p .0) (q .0), refl ⨾ refl ⨾ refl ⨾ refl ⨾ refl ⨾ refl ⨾ meet (p .1) (q .1) ⨾ refl)))
+
+encode-closed-by-fixed : Fixed encode-closed-by.ended (λ M. encode-closed-by.clauses) encode-closed-by.Symbol.routine
+encode-closed-by-fixed M 𝓤 H 𝓜 𝓖 𝓡 =
+    (encode-closed-by.Met.met 𝓤 H 𝓜 𝓖 𝓡, λ κs a. asks-nothing 𝓤, λ κs a g h r s v w. both (one & one) (one & one) (λ p q. (meet (p .0) (q .0), refl ⨾ refl ⨾ refl ⨾ refl ⨾ meet (p .1) (q .1) ⨾ refl)))
 
 past-end-fixed : Fixed past-end.ended (λ M. past-end.clauses) past-end.Symbol.routine
 past-end-fixed M 𝓤 H 𝓜 𝓖 𝓡 = (past-end.Met.met 𝓤 H 𝓜 𝓖 𝓡, λ κs a. asks-nothing 𝓤, λ κs a g h r s v w. both one one alike)

@@ -1,8 +1,10 @@
--- A room of 67 places is never too short, whatever the command: by each encoder's law of length. Assumes nothing.
+-- A room of 67 places is never too short, whatever the command, and one of 68 not for the closed form: by each encoder's law of length. Assumes nothing.
 use Prim.Native.Nat.{ℕ, _≤_}
 use mathlib.Core.Path.{_≡_}
+use mathlib.Core.Bool.{false}
 use native.Mathlib.Omega.{arith}
 use lib.ListN.{length}
+use Rattle.commands.specs.Nec.{packOf}
 use Rattle.commands.specs.declared.Command.{Command}
 use Rattle.commands.specs.declared.Command.the-variants.{Nec, Rc5, Rc6, Sbp, Denon}
 use Rattle.commands.specs.declared.CommandAnswer.{CommandAnswer}
@@ -10,7 +12,7 @@ use Rattle.commands.specs.declared.CommandAnswer.the-variants.{Made, Refused}
 use Rattle.nec_encoder.proofs.Frame as nec
 use Rattle.rc5_encoder.proofs.Frame as rc5
 use Rattle.rc6_encoder.proofs.Frame as rc6
-use Rattle.protocols.specs.Encoder.{frameOf, frameMade}
+use Rattle.protocols.specs.Encoder.{frameOf, frameMade, closedBy}
 
 all : (n : ℕ) → n ≡ 67 → n ≤ 67
 all n e = omega arith
@@ -28,3 +30,6 @@ at-most (Denon c) rate = omega arith
 pub made-at-most : (answer : CommandAnswer) (rate : ℕ) → length (frameMade answer rate) ≤ 67
 made-at-most (Made command) rate = at-most command rate
 made-at-most (Refused number) rate = omega arith
+
+pub closed-at-most : (rate addr cmd : ℕ) → length (closedBy rate addr cmd) ≤ 68
+closed-at-most rate addr cmd = omega (arith, nec.length-closed (packOf (record { addr = addr; cmd = cmd; repeat = false })) rate)

@@ -1,9 +1,10 @@
 -- Document 01, "Frames" and refusal 2: the frame of a command, of any protocol or by number and plain fields, and what encoding it answers and leaves.
+-- Document 02, request 02: the closed form by number.
 use Prim.Native.Nat.{ℕ}
-use mathlib.Core.Bool.{Bool}
+use mathlib.Core.Bool.{Bool, false}
 use mathlib.Core.List.{List, []}
 use lib.ListN.{length}
-use Rattle.refusals.specs.Refusals.{inOrder, encodeTests}
+use Rattle.refusals.specs.Refusals.{encodeTaken, inOrder, encodeTests}
 use Rattle.commands.specs.Command.{commandOf}
 use Rattle.commands.specs.declared.Command.{Command}
 use Rattle.commands.specs.declared.Command.the-variants.{Nec, Rc5, Rc6, Sbp, Denon}
@@ -12,7 +13,7 @@ use Rattle.commands.specs.declared.CommandAnswer.the-variants.{Made, Refused}
 use Rattle.frames.specs.Frames.{refusedFor, onto}
 use Rattle.frames.specs.declared.Encoded.{Encoded}
 use Rattle.frames.specs.declared.Encoded.the-variants.{Wrote}
-use Rattle.nec_encoder.specs.Encoder.{necFrame}
+use Rattle.nec_encoder.specs.Encoder.{necFrame, necClosedFrame}
 use Rattle.rc5_encoder.specs.Encoder.{rc5Frame}
 use Rattle.rc6_encoder.specs.Encoder.{rc6Frame}
 
@@ -32,12 +33,23 @@ frameMade (Refused number) rate = []
 abbrev pub frameBy : ℕ → ℕ → ℕ → ℕ → ℕ → Bool → List ℕ
 frameBy protocol rate addr cmd start toggle = frameMade (commandOf protocol addr cmd start toggle) rate
 
--- the answer for a protocol, a rate, a lent buffer and a frame: refusals 2, 1, then 3; or the count written
-unfoldable pub encodedBy : ℕ → ℕ → List ℕ → List ℕ → Encoded
-encodedBy protocol rate lent frame =
-    inOrder (encodeTests protocol rate (length lent) (length frame)) (refusedFor (length frame)) (Wrote (length frame))
+-- the closed form, of NEC alone
+abbrev pub closedBy : ℕ → ℕ → ℕ → List ℕ
+closedBy rate addr cmd = necClosedFrame (record { addr = addr; cmd = cmd; repeat = false }) rate
+
+-- the answer for a protocol that is taken or not, a rate, a lent buffer and a frame: refusals 2, 1, then 3; or the count written
+unfoldable pub encodedIf : Bool → ℕ → List ℕ → List ℕ → Encoded
+encodedIf taken rate lent frame =
+    inOrder (encodeTests taken rate (length lent) (length frame)) (refusedFor (length frame)) (Wrote (length frame))
 
 -- what the lent buffer holds at exit: "buffer untouched" where refused, else the frame
-unfoldable pub leftBy : ℕ → ℕ → List ℕ → List ℕ → List ℕ
-leftBy protocol rate lent frame =
-    inOrder (encodeTests protocol rate (length lent) (length frame)) (λ number. lent) (onto frame lent)
+unfoldable pub leftIf : Bool → ℕ → List ℕ → List ℕ → List ℕ
+leftIf taken rate lent frame =
+    inOrder (encodeTests taken rate (length lent) (length frame)) (λ number. lent) (onto frame lent)
+
+-- the same by protocol number: "encode: not 1, 2, 3"
+abbrev pub encodedBy : ℕ → ℕ → List ℕ → List ℕ → Encoded
+encodedBy protocol rate lent frame = encodedIf (encodeTaken protocol) rate lent frame
+
+abbrev pub leftBy : ℕ → ℕ → List ℕ → List ℕ → List ℕ
+leftBy protocol rate lent frame = leftIf (encodeTaken protocol) rate lent frame

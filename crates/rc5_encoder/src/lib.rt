@@ -60,16 +60,12 @@ pub fn encode(command: Rc5Command, rate: u32, out: &mut [u32]) -> Encoded
     ensures answer { λ r. ⌜ r ≡ encodedOf rate (now (out .entry)) (rc5Frame command rate) ⌝ }
     ensures left { λ _. ⌜ now (out .exit) ≡ leftOf rate (now (out .entry)) (rc5Frame command rate) ⌝ }
 {
-    if !refusals::rate_taken(rate) {
-        return Encoded::Refused(refusals::BAD_RATE);
-    }
     let bits = command.pack();
-    let needed = count(bits);
-    if out.len() < needed {
-        return Encoded::Short(needed);
+    let encoded = frames::admitted(rate, out.len(), count(bits));
+    if let Encoded::Wrote(_) = encoded {
+        let single = frames::scale(889, rate);
+        out[0] = 0;
+        put_bits(out, bits, single);
     }
-    let single = frames::scale(889, rate);
-    out[0] = 0;
-    put_bits(out, bits, single);
-    Encoded::Wrote(needed)
+    encoded
 }

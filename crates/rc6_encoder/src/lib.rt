@@ -134,14 +134,10 @@ pub fn encode(command: Rc6Command, rate: u32, out: &mut [u32]) -> Encoded
     ensures answer { λ r. ⌜ r ≡ encodedOf rate (now (out .entry)) (rc6Frame command rate) ⌝ }
     ensures left { λ _. ⌜ now (out .exit) ≡ leftOf rate (now (out .entry)) (rc6Frame command rate) ⌝ }
 {
-    if !refusals::rate_taken(rate) {
-        return Encoded::Refused(refusals::BAD_RATE);
-    }
     let word = word(command.toggle, command.pack());
-    let needed = count(word);
-    if out.len() < needed {
-        return Encoded::Short(needed);
+    let encoded = frames::admitted(rate, out.len(), count(word));
+    if let Encoded::Wrote(_) = encoded {
+        write(out, unit(rate), word);
     }
-    write(out, unit(rate), word);
-    Encoded::Wrote(needed)
+    encoded
 }

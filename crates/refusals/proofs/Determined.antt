@@ -3,6 +3,7 @@ use Rattle.determined.specs.Determined.{Fixed, asks-nothing, both, one, alike}
 use Rattle.refusals.proofs.is_within as is-within
 use Rattle.refusals.proofs.protocol_taken as protocol-taken
 use Rattle.refusals.proofs.encode_taken as encode-taken
+use Rattle.refusals.proofs.closed_taken as closed-taken
 use Rattle.refusals.proofs.rate_taken as rate-taken
 use Rattle.refusals.proofs.of_build as of-build
 
@@ -14,6 +15,9 @@ protocol-taken-fixed M 𝓤 H 𝓜 𝓖 𝓡 = (protocol-taken.Met.met 𝓤 H �
 
 encode-taken-fixed : Fixed encode-taken.ended (λ M. encode-taken.clauses) encode-taken.Symbol.routine
 encode-taken-fixed M 𝓤 H 𝓜 𝓖 𝓡 = (encode-taken.Met.met 𝓤 H 𝓜 𝓖 𝓡, λ κs a. asks-nothing 𝓤, λ κs a g h r s v w. both one one alike)
+
+closed-taken-fixed : Fixed closed-taken.ended (λ M. closed-taken.clauses) closed-taken.Symbol.routine
+closed-taken-fixed M 𝓤 H 𝓜 𝓖 𝓡 = (closed-taken.Met.met 𝓤 H 𝓜 𝓖 𝓡, λ κs a. asks-nothing 𝓤, λ κs a g h r s v w. both one one alike)
 
 rate-taken-fixed : Fixed rate-taken.ended (λ M. rate-taken.clauses) rate-taken.Symbol.routine
 rate-taken-fixed M 𝓤 H 𝓜 𝓖 𝓡 = (rate-taken.Met.met 𝓤 H 𝓜 𝓖 𝓡, λ κs a. asks-nothing 𝓤, λ κs a g h r s v w. both one one alike)

@@ -34,6 +34,10 @@ protocolTaken protocol = within 1 protocol 5
 abbrev pub encodeTaken : ℕ → Bool
 encodeTaken protocol = within 1 protocol 3
 
+-- document 02, request 02: NEC alone has a closed form
+abbrev pub closedTaken : ℕ → Bool
+closedTaken protocol = within 1 protocol 1
+
 abbrev pub rateTaken : ℕ → Bool
 rateTaken rate = within 1 rate 9673349
 
@@ -65,6 +69,6 @@ buildTests protocol rate = (badProtocol, protocolTaken protocol) ∷ (badRate, r
 abbrev pub frameTests : ℕ → ℕ → ℕ → Tests
 frameTests rate room length = (badRate, rateTaken rate) ∷ (shortBuffer, leb length room) ∷ []
 
--- the same by protocol number
-abbrev pub encodeTests : ℕ → ℕ → ℕ → ℕ → Tests
-encodeTests protocol rate room length = (badProtocol, encodeTaken protocol) ∷ frameTests rate room length
+-- the same of a protocol that is taken, or not
+abbrev pub encodeTests : Bool → ℕ → ℕ → ℕ → Tests
+encodeTests taken rate room length = (badProtocol, taken) ∷ frameTests rate room length

@@ -1,6 +1,6 @@
 // Document 01, "Refusal numbers": the numbers by name, which protocol numbers and rates are taken, and the order of the tests.
 ghost use mathlib.Core.Path.{_≡_};
-ghost use Rattle.refusals.specs.Refusals.{none, within, protocolTaken, encodeTaken, rateTaken, inOrder, buildTests};
+ghost use Rattle.refusals.specs.Refusals.{none, within, protocolTaken, encodeTaken, closedTaken, rateTaken, inOrder, buildTests};
 
 // Nothing is refused.
 pub const NONE: u32 = 0;
@@ -42,6 +42,13 @@ pub fn encode_taken(protocol: u32) -> bool
     ensures { λ r. ⌜ r ≡ encodeTaken protocol ⌝ }
 {
     is_within(1, protocol as u64, 3)
+}
+
+// The protocols that have frames with a closing burst: 1.
+pub fn closed_taken(protocol: u32) -> bool
+    ensures { λ r. ⌜ r ≡ closedTaken protocol ⌝ }
+{
+    is_within(1, protocol as u64, 1)
 }
 
 // The rates that every call takes.

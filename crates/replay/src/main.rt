@@ -11,6 +11,7 @@ use calls::on_slots::answered;
 use libc::STDERR_FILENO;
 use libc::STDIN_FILENO;
 use libc::STDOUT_FILENO;
+use on_frames::put_closed_call;
 use on_frames::put_encode_call;
 use on_spans::put_spans_call;
 use text::put;
@@ -51,6 +52,9 @@ fn put_call_answer(text: &mut [u8], at: usize, call: usize, n: &[u64; 8], parts:
     }
     if call == calls::ENCODE {
         return put_encode_call(text, at, n);
+    }
+    if call == calls::CLOSED {
+        return put_closed_call(text, at, n);
     }
     put_answer(text, at, parts)
 }

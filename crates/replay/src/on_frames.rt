@@ -1,23 +1,36 @@
-// The call on frames: encode PROTOCOL RATE ADDRESS COMMAND START TOGGLE ROOM.
+// The calls on frames: encode PROTOCOL RATE ADDRESS COMMAND START TOGGLE ROOM, and closed PROTOCOL RATE ADDRESS COMMAND ROOM.
 use answer_text::put_phrase;
 use answers::of_encoded;
 use answers::of_unwritten;
 use calls::on_frames::encode;
+use calls::on_frames::encode_closed;
 use calls::on_frames::unwritten;
+use frames::Encoded;
 use frames::written;
 use text::put_durations;
 
-// Encodes into a lent slice of so many places.
-fn put_frame(text: &mut [u8], at: usize, n: &[u64; 8], lent: &mut [u32]) -> usize {
-    let encoded = encode(n, lent);
+// What was answered, the durations that were written, and how many of the lent places hold what they held.
+fn put_encoded(text: &mut [u8], at: usize, encoded: Encoded, lent: &[u32]) -> usize {
     let count = written(encoded);
     let at = put_phrase(text, at, of_encoded(encoded));
     let at = put_durations(text, at, lent, count);
     put_phrase(text, at, of_unwritten(unwritten(lent, count)))
 }
 
+// Encodes into a lent slice of so many places.
 pub fn put_encode_call(text: &mut [u8], at: usize, n: &[u64; 8]) -> usize {
     let mut places = [0u32; 100];
     let room = (n[6] % 101) as usize;
-    put_frame(text, at, n, &mut places[..room])
+    let lent = &mut places[..room];
+    let encoded = encode(n, lent);
+    put_encoded(text, at, encoded, lent)
+}
+
+// The same for the frame with its closing burst.
+pub fn put_closed_call(text: &mut [u8], at: usize, n: &[u64; 8]) -> usize {
+    let mut places = [0u32; 100];
+    let room = (n[4] % 101) as usize;
+    let lent = &mut places[..room];
+    let encoded = encode_closed(n, lent);
+    put_encoded(text, at, encoded, lent)
 }

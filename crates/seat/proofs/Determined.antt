@@ -2,11 +2,16 @@
 use mathlib.Core.Path.{refl}
 use Rattle.determined.specs.Determined.{Fixed, asks-nothing, both, one, _&_, meet, _⨾_}
 use Rattle.seat.proofs.seat_encode as seat-encode
+use Rattle.seat.proofs.seat_encode_closed as seat-encode-closed
 use Rattle.seat.proofs.seat_lookup as seat-lookup
 
 seat-encode-fixed : Fixed seat-encode.ended (λ M. seat-encode.clauses) seat-encode.Symbol.routine
 seat-encode-fixed M 𝓤 H 𝓜 𝓖 𝓡 =
     (seat-encode.Met.met 𝓤 H 𝓜 𝓖 𝓡, λ κs a. asks-nothing 𝓤, λ κs a g h r s v w. both (one & one & one) (one & one & one) (λ p q. (meet (p .0) (q .0), refl ⨾ refl ⨾ refl ⨾ refl ⨾ refl ⨾ refl ⨾ meet (p .1 .1) (q .1 .1) ⨾ meet (p .1 .0) (q .1 .0) ⨾ refl)))
+
+seat-encode-closed-fixed : Fixed seat-encode-closed.ended (λ M. seat-encode-closed.clauses) seat-encode-closed.Symbol.routine
+seat-encode-closed-fixed M 𝓤 H 𝓜 𝓖 𝓡 =
+    (seat-encode-closed.Met.met 𝓤 H 𝓜 𝓖 𝓡, λ κs a. asks-nothing 𝓤, λ κs a g h r s v w. both (one & one & one) (one & one & one) (λ p q. (meet (p .0) (q .0), refl ⨾ refl ⨾ refl ⨾ refl ⨾ meet (p .1 .1) (q .1 .1) ⨾ meet (p .1 .0) (q .1 .0) ⨾ refl)))
 
 seat-lookup-fixed : Fixed seat-lookup.ended (λ M. seat-lookup.clauses) seat-lookup.Symbol.routine
 seat-lookup-fixed M 𝓤 H 𝓜 𝓖 𝓡 =

@@ -3,17 +3,26 @@
 use frames::Encoded;
 use spans::Answer;
 ghost use mathlib.Core.Path.{_≡_};
+ghost use Rattle.refusals.specs.Refusals.{closedTaken};
 ghost use Rattle.frames.specs.Frames.{encodedNumber};
-ghost use Rattle.protocols.specs.Encoder.{frameBy, encodedBy, leftBy};
+ghost use Rattle.protocols.specs.Encoder.{frameBy, encodedBy, leftBy, closedBy, encodedIf, leftIf};
 ghost use Rattle.seat.specs.Seat.{lengthAfter, lookupNumber, placeAfter};
 
-fn encoded_number(encoded: Encoded) -> u32
-    ensures { λ r. ⌜ r ≡ encodedNumber encoded ⌝ }
+// What a call on frames returns and stores of an encoder's answer.
+fn told(encoded: Encoded, length: &mut usize) -> u32
+    ensures number { λ r. ⌜ r ≡ encodedNumber encoded ⌝ }
+    ensures length { λ _. ⌜ now (length .exit) ≡ lengthAfter encoded (now (length .entry)) ⌝ }
 {
     match encoded {
-        Encoded::Wrote(_) => refusals::NONE,
+        Encoded::Wrote(count) => {
+            *length = count;
+            refusals::NONE
+        }
         Encoded::Refused(number) => number,
-        Encoded::Short(_) => refusals::SHORT_BUFFER,
+        Encoded::Short(needed) => {
+            *length = needed;
+            refusals::SHORT_BUFFER
+        }
     }
 }
 
@@ -35,11 +44,25 @@ pub extern "C" fn seat_encode(
     ensures left { λ _. ⌜ now (frame .exit) ≡ leftBy protocol rate (now (frame .entry)) (frameBy protocol rate addr cmd start toggle) ⌝ }
 {
     let encoded = protocols::encoder::encode_by(protocol, rate, addr, cmd, start, toggle, frame);
-    if let Encoded::Refused(number) = encoded {
-        return number;
-    }
-    *length = frames::encoded_length(encoded);
-    encoded_number(encoded)
+    told(encoded, length)
+}
+
+// The frame of a command with its closing burst, for protocol 1 alone. Refusals: 2, 1, then 3. `length` is as for `seat_encode`.
+#[no_mangle]
+pub extern "C" fn seat_encode_closed(
+    protocol: u32,
+    rate: u32,
+    addr: u8,
+    cmd: u8,
+    frame: &mut [u32],
+    length: &mut usize,
+) -> u32
+    ensures number { λ r. ⌜ r ≡ encodedNumber (encodedIf (closedTaken protocol) rate (now (frame .entry)) (closedBy rate addr cmd)) ⌝ }
+    ensures length { λ _. ⌜ now (length .exit) ≡ lengthAfter (encodedIf (closedTaken protocol) rate (now (frame .entry)) (closedBy rate addr cmd)) (now (length .entry)) ⌝ }
+    ensures left { λ _. ⌜ now (frame .exit) ≡ leftIf (closedTaken protocol) rate (now (frame .entry)) (closedBy rate addr cmd) ⌝ }
+{
+    let encoded = protocols::encoder::encode_closed_by(protocol, rate, addr, cmd, frame);
+    told(encoded, length)
 }
 
 // The lookup of a duration in the spans of a protocol, 1 to 5, at a rate. Refusals: 2, then 1.

@@ -17,8 +17,10 @@ slice-write-out-3 c =
 returns : tie.Need-returns
 unfolding frameOf
 returns c =
-    rw (c .before .before .before .before .before .before .before .scale .ensures, c .before .before .before .before .before .before .scale2 .ensures, c .before .before .before .before .before .scale3 .ensures, c .before .before .before .before .scale4 .ensures)
-    at (c .before .before .put-bits .ensures)
+    let scaled = c .before .before .before .before in
+    let burst = scaled .before .scale3 .ensures in
+    let laid = c .before .before .put-bits .ensures in
+    (burst, rw (scaled .before .before .before .scale .ensures, scaled .before .before .scale2 .ensures, burst, scaled .scale4 .ensures) at laid)
 
 pub write-spec : {M : Type 1} → statement M
 write-spec =

@@ -17,4 +17,7 @@ put-call-answer-spec =
     (λ c. tt)
     (λ c κs. tt)
     (λ c. search needs)
+    (λ c. tt)
+    (λ c κs. tt)
+    (λ c. search needs)
     (λ c. tt))

@@ -3,7 +3,7 @@ use lib.Dec.{eqb}
 use lib.ListN.{getD}
 use denote.Ref.{now}
 use Rattle.calls.specs.OnFrames.{encodedAt, leftAt}
-use Rattle.calls.proofs.Frames.{same-answer, same-places}
+use Rattle.calls.proofs.Frames.{same-frame}
 use borrow.Author.Needs.{needs}
 use Rattle.calls.proofs.on_frames.encode.Statement.{statement}
 use Rattle.calls.proofs.on_frames.encode.Tie as tie
@@ -18,10 +18,8 @@ returns c =
     let rate = addr .before .before in
     let protocol = rate .before .before in
     let marks = protocol .before .before .before .before in
-    let toggle = eqb (getD (now (marks .before .before .before .args .n)) 5 0) 1 in (
-      same-answer toggle (e .encode-by .ensures .0) (protocol .low-32 .ensures) (rate .low-322 .ensures) (marks .put-marks .ensures) (addr .low-8 .ensures) (cmd .low-82 .ensures) (start .low-83 .ensures),
-      same-places toggle (e .encode-by .ensures .1) (protocol .low-32 .ensures) (rate .low-322 .ensures) (marks .put-marks .ensures) (addr .low-8 .ensures) (cmd .low-82 .ensures) (start .low-83 .ensures),
-    )
+    let toggle = eqb (getD (now (marks .before .before .before .args .n)) 5 0) 1 in
+    same-frame toggle (e .encode-by .ensures) (protocol .low-32 .ensures) (rate .low-322 .ensures) (marks .put-marks .ensures) (addr .low-8 .ensures) (cmd .low-82 .ensures) (start .low-83 .ensures)
 
 pub encode-spec : {M : Type 1} → statement M
 encode-spec =

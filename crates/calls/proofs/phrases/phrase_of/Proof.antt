@@ -1,5 +1,5 @@
 -- `calls::phrases::phrase_of` meets its contract: its tests pick the definition's branch. Assumes nothing.
-use borrow.Author.Tests.{eq-eqb, ne-eqb, lt-ltb, le-ltb}
+use borrow.Author.Tests.{eq-eqb, ne-eqb}
 use Rattle.calls.specs.Phrases.{phraseOf}
 use borrow.Author.Needs.{needs}
 use Rattle.calls.proofs.phrases.phrase_of.Statement.{statement}
@@ -22,6 +22,6 @@ phrase-of-spec =
     (λ c κs. tt)
     (λ c. simp (ne-eqb _ _ (c .before .before .before .before .if1 .left), eq-eqb _ _ (c .before .before .before .if2 .taken), c .bounds-of .ensures, c .before .low-323 .ensures))
     (λ c κs. tt)
-    (λ c. simp (ne-eqb _ _ (c .before .before .before .if1 .left), ne-eqb _ _ (c .before .before .if2 .left), lt-ltb _ _ (c .before .if3 .taken), c .text .ensures))
+    (λ c. simp (ne-eqb _ _ (c .before .before .before .if1 .left), ne-eqb _ _ (c .before .before .if2 .left), c .before .if3 .taken, c .text .ensures))
     (λ c κs. tt)
-    (λ c. simp (ne-eqb _ _ (c .before .before .before .if1 .left), ne-eqb _ _ (c .before .before .if2 .left), le-ltb _ _ (c .before .if3 .left), c .not-understood .ensures)))
+    (λ c. simp (ne-eqb _ _ (c .before .before .before .if1 .left), ne-eqb _ _ (c .before .before .if2 .left), c .before .if3 .left, c .not-understood .ensures)))

@@ -1,12 +1,13 @@
 -- `promises::send::send` meets its contract: 67 places hold every frame, so the encoder writes it or refuses the protocol. Assumes nothing.
 use Prim.Native.Nat.{ℕ, _≤_}
 use mathlib.Core.List.{List}
+use native.Mathlib.Omega.{arith}
 use lib.ListN.{length}
 use borrow.Author.Needs.{needs}
 use Rattle.commands.specs.Command.{protocolOf}
 use Rattle.protocols.specs.Encoder.{frameOf}
 use Rattle.promises.specs.Send.{sentOf}
-use Rattle.protocols.proofs.Room.{at-most}
+use Rattle.protocols.proofs.Room.{under, at-most}
 use Rattle.promises.proofs.Room.{Written, written, refused, never-short}
 use Rattle.promises.proofs.send.send.Statement.{statement}
 use Rattle.promises.proofs.send.send.Tie as tie
@@ -64,7 +65,7 @@ send-spec =
     (λ c. search needs)
     (λ c. places c .fits)
     (λ c. places (c .before) .counted)
-    (λ c κs. rw (places (c .before) .whole) (room (encode-start (encode-wrote (c .before)))))
+    (λ c κs. under _ 67 68 (rw (places (c .before) .whole) (room (encode-start (encode-wrote (c .before))))) (omega arith))
     (λ c. search needs)
     (λ c κs. search needs)
     (λ c. search needs)

@@ -1,12 +1,12 @@
 -- `protocols::encoder::encode` meets its contract: a command that is sent passes the first test, and the others are its encoder's own. Assumes nothing.
 use borrow.Author.Needs.{needs}
 use Rattle.frames.specs.Frames.{encodedOf, leftOf}
-use Rattle.protocols.specs.Encoder.{encodedBy, leftBy}
+use Rattle.protocols.specs.Encoder.{encodedIf, leftIf}
 use Rattle.protocols.proofs.encoder.encode.Statement.{statement}
 use Rattle.protocols.proofs.encoder.encode.Tie as tie
 
 pub encode-spec : {M : Type 1} → statement M
-unfolding encodedOf leftOf encodedBy leftBy
+unfolding encodedOf leftOf encodedIf leftIf
 encode-spec =
     tie.close
     (tie.spec

@@ -2,7 +2,7 @@
 use mathlib.Core.Path.{sym, _∙_}
 use borrow.Author.Needs.{needs}
 use Rattle.commands.proofs.Made.{told-by}
-use Rattle.protocols.specs.Encoder.{frameMade, encodedBy, leftBy}
+use Rattle.protocols.specs.Encoder.{frameMade, encodedIf, leftIf, encodedBy, leftBy}
 use Rattle.protocols.proofs.encoder.encode_by.Statement.{statement}
 use Rattle.protocols.proofs.encoder.encode_by.Tie as tie
 
@@ -17,7 +17,7 @@ returns c =
     )
 
 returns-2 : tie.Need-returns-2
-unfolding encodedBy leftBy
+unfolding encodedIf leftIf
 returns-2 c =
     let start = c .before .before .before .before .before .args in
     let (other, number) = told-by (start .addr) (start .cmd) (start .start) (start .toggle) (start .protocol) (sym (c .before .made2 .given .1) ∙ c .before .before .before .command-of .ensures) in

@@ -13,5 +13,6 @@ put-encode-call-spec =
     (λ c. search needs)
     (λ c. simp length-take (omega arith))
     (λ c κs. tt)
+    (λ c κs. tt)
     (λ c. search needs)
-    (λ c. search needs))
+    (λ c. tt))
