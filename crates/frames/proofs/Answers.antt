@@ -36,6 +36,7 @@ module _ (rate room needed : ℕ) (encoded : Encoded) (answer : encoded ≡ admi
   pub has-room : needed ≤ room
   has-room = leb-true needed room (passed .1)
 
+-- what is answered, and what is left: the frame, or what was lent
 module _
     (rate : ℕ) (lent frame : List ℕ) (needed : ℕ) (counted : needed ≡ length frame) (encoded : Encoded)
     (answer : encoded ≡ admittedOf rate (length lent) needed)
