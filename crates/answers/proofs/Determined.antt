@@ -1,5 +1,5 @@
 -- The contract of each public function asks nothing of a caller and leaves no choice open. Assumes nothing.
-use Rattle.determined.specs.Determined.{Fixed, asks-nothing, both, one, alike}
+use Rattle.determined.specs.Determined.{Fixed, asks-nothing, both, one, _&_, alike, alike-left}
 use Rattle.answers.proofs.text as text
 use Rattle.answers.proofs.with as with
 use Rattle.answers.proofs.with_two as with-two
@@ -15,6 +15,9 @@ use Rattle.answers.proofs.of_unwritten as of-unwritten
 use Rattle.answers.proofs.is_taken as is-taken
 use Rattle.answers.proofs.not_open as not-open
 use Rattle.answers.proofs.not_understood as not-understood
+use Rattle.answers.proofs.as_text.put_phrase as put-phrase
+use Rattle.answers.proofs.as_text.put_part as put-part
+use Rattle.answers.proofs.as_text.put_spans as put-spans
 
 text-fixed : Fixed text.ended (λ M. text.clauses) text.Symbol.routine
 text-fixed M 𝓤 H 𝓜 𝓖 𝓡 = (text.Met.met 𝓤 H 𝓜 𝓖 𝓡, λ κs a. asks-nothing 𝓤, λ κs a g h r s v w. both one one alike)
@@ -60,3 +63,12 @@ of-edge-fixed M 𝓤 H 𝓜 𝓖 𝓡 = (of-edge.Met.met 𝓤 H 𝓜 𝓖 𝓡, 
 
 of-bounds-fixed : Fixed of-bounds.ended (λ M. of-bounds.clauses) of-bounds.Symbol.routine
 of-bounds-fixed M 𝓤 H 𝓜 𝓖 𝓡 = (of-bounds.Met.met 𝓤 H 𝓜 𝓖 𝓡, λ κs a. asks-nothing 𝓤, λ κs a g h r s v w. both one one alike)
+
+put-phrase-fixed : Fixed put-phrase.ended (λ M. put-phrase.clauses) put-phrase.Symbol.routine
+put-phrase-fixed M 𝓤 H 𝓜 𝓖 𝓡 = (put-phrase.Met.met 𝓤 H 𝓜 𝓖 𝓡, λ κs a. asks-nothing 𝓤, λ κs a g h r s v w. both (one & one) (one & one) alike-left)
+
+put-part-fixed : Fixed put-part.ended (λ M. put-part.clauses) put-part.Symbol.routine
+put-part-fixed M 𝓤 H 𝓜 𝓖 𝓡 = (put-part.Met.met 𝓤 H 𝓜 𝓖 𝓡, λ κs a. asks-nothing 𝓤, λ κs a g h r s v w. both (one & one) (one & one) alike-left)
+
+put-spans-fixed : Fixed put-spans.ended (λ M. put-spans.clauses) put-spans.Symbol.routine
+put-spans-fixed M 𝓤 H 𝓜 𝓖 𝓡 = (put-spans.Met.met 𝓤 H 𝓜 𝓖 𝓡, λ κs a. asks-nothing 𝓤, λ κs a g h r s v w. both (one & one) (one & one) alike-left)

@@ -1,4 +1,6 @@
-// What a call answers: a text of at most 16 characters, and up to four numbers after it.
+// What a call answers: a text of at most 16 characters, and up to four numbers after it; `as_text` puts it, and spans, into a lent slice.
+pub mod as_text;
+
 use frames::Encoded;
 use reports::Report;
 use reports::ReportNumbers;

@@ -12,7 +12,7 @@ use Rattle.protocols.specs.declared.decoder.Event.{Event}
 use Rattle.protocols.specs.declared.decoder.Total.{Total}
 use Rattle.answers.specs.Answers.{statusPhrase, reportPhrase}
 use Rattle.answers.specs.declared.Phrase.{Phrase}
-use Rattle.calls.specs.Parts.{alone}
+use Rattle.calls.specs.Parts.{headed}
 use Rattle.calls.specs.Send.{sendAt}
 use Rattle.calls.specs.Slots.{answering, eventAt, totalAt, edgeAt, commandAt, resetAt, counterAt, askedAt}
 use Rattle.calls.specs.declared.on_slots.Parts.{Parts}
@@ -21,31 +21,28 @@ use Rattle.calls.specs.declared.slots.DecoderAnswer.{DecoderAnswer}
 abbrev made : Parts → Decoder → DecoderAnswer
 made parts decoder = record { parts = parts; decoder = decoder }
 
-abbrev headed : Phrase → Phrase → Phrase → Decoder → DecoderAnswer
-headed first second last decoder =
-    record { parts = record { «has_head» = true; first = first; second = second; last = last }; decoder = decoder }
-
--- an answer of one part, from equal parts
-pub answers : {parts : Parts} {phrase phrase′ : Phrase} {d d′ : Decoder} → parts ≡ alone phrase → phrase ≡ phrase′ → d ≡ d′ → made parts d ≡ answering phrase′ d′
-answers {phrase′ = phrase′} {d = d} h p e = (λ i. made (h i) d) ∙ (λ i. answering (p i) d) ∙ (λ i. answering phrase′ (e i))
+-- an answer of one part, from equal ones
+pub answers : {x : DecoderAnswer} {phrase phrase′ : Phrase} {d d′ : Decoder} → x ≡ answering phrase d → phrase ≡ phrase′ → d ≡ d′ → x ≡ answering phrase′ d′
+answers h p e = h ∙ (λ i. answering (p i) (e i))
 
 module _ (d : Decoder) (rising : Bool) (duration : ℕ) where
-  pub event-is : {e : Event} {phrase : Phrase} {parts : Parts} → e ≡ edgeEvent d (edge rising duration) → phrase ≡ statusPhrase (e .status) → parts ≡ alone phrase → made parts (e .decoder) ≡ eventAt d rising duration
+  pub event-is : {e : Event} {phrase : Phrase} {x : DecoderAnswer} → e ≡ edgeEvent d (edge rising duration) → phrase ≡ statusPhrase (e .status) → x ≡ answering phrase (e .decoder) → x ≡ eventAt d rising duration
   event-is q p h = answers h p refl ∙ ap (λ (e : Event). answering (statusPhrase (e .status)) (e .decoder)) q
 
-  pub total-is : {t : Total} {phrase : Phrase} {parts : Parts} → t ≡ edgeTotal d (edge rising duration) → phrase ≡ reportPhrase (t .report) → parts ≡ alone phrase → made parts (t .decoder) ≡ totalAt d rising duration
+  pub total-is : {t : Total} {phrase : Phrase} {x : DecoderAnswer} → t ≡ edgeTotal d (edge rising duration) → phrase ≡ reportPhrase (t .report) → x ≡ answering phrase (t .decoder) → x ≡ totalAt d rising duration
   total-is q p h = answers h p refl ∙ ap (λ (t : Total). answering (reportPhrase (t .report)) (t .decoder)) q
 
   pub edge-is
-      : {e : Event} {t : Total} {command : Report} {first second last : Phrase}
+      : {e : Event} {t : Total} {command : Report} {first second last : Phrase} {parts : Parts}
       → e ≡ edgeEvent d (edge rising duration) → t ≡ edgeTotal d (edge rising duration) → first ≡ statusPhrase (e .status)
-      → command ≡ machine .command (e .decoder .memory) → second ≡ reportPhrase command → last ≡ reportPhrase (t .report)
-      → headed first second last (t .decoder) ≡ edgeAt d rising duration
-  edge-is {t = t} q s f c g l =
-      (λ i. headed (f i) ((g ∙ ap (λ (r : Report). reportPhrase r) c) i) (l i) (t .decoder)) ∙
-      (λ i. headed (statusPhrase (q i .status)) (reportPhrase (machine .command (q i .decoder .memory))) (reportPhrase (s i .report)) (s i .decoder))
+      → command ≡ machine .command (e .decoder .memory) → second ≡ reportPhrase command → last ≡ reportPhrase (t .report) → parts ≡ headed first second last
+      → made parts (t .decoder) ≡ edgeAt d rising duration
+  edge-is {t = t} q s f c g l h =
+      (λ i. made (h i) (t .decoder)) ∙
+      (λ i. made (headed (f i) ((g ∙ ap (λ (r : Report). reportPhrase r) c) i) (l i)) (t .decoder)) ∙
+      (λ i. made (headed (statusPhrase (q i .status)) (reportPhrase (machine .command (q i .decoder .memory))) (reportPhrase (s i .report))) (s i .decoder))
 
-pub command-is : (d : Decoder) {report : Report} {phrase : Phrase} {parts : Parts} → report ≡ machine .command (d .memory) → phrase ≡ reportPhrase report → parts ≡ alone phrase → made parts d ≡ commandAt d
+pub command-is : (d : Decoder) {report : Report} {phrase : Phrase} {x : DecoderAnswer} → report ≡ machine .command (d .memory) → phrase ≡ reportPhrase report → x ≡ answering phrase d → x ≡ commandAt d
 command-is d r p h = answers h (p ∙ ap (λ (x : Report). reportPhrase x) r) refl
 
 -- the answer that the call's number picks

@@ -22,29 +22,29 @@ abbrev ticked : Polled → ℕ → Polled
 ticked p clock = record { decoder = p .decoder; clock = clock; «last_edge» = p .«last_edge»; level = p .level }
 
 abbrev closedWith : Slot → Parts → SlotAnswer
-closedWith slot parts = record { is_open = false; receiver = slot .receiver; parts = parts }
+closedWith slot parts = record { slot = slot; parts = parts }
 
 -- on an open slot
 module _ (call : ℕ) (p : Polled) (a b : ℕ) (n : List ℕ) where
   pub poll-is
-      : call ≡ 10 → {run : PollRun} {phrase : Phrase} {parts : Parts} → run ≡ pollsAt p (eqb a 1) b → phrase ≡ reportPhrase (run .report) → parts ≡ alone phrase
-      → heldBy parts (run .receiver) ≡ heldAt call p a b n
+      : call ≡ 10 → {run : PollRun} {phrase : Phrase} {parts : Parts} {x : SlotAnswer} → run ≡ pollsAt p (eqb a 1) b → phrase ≡ reportPhrase (run .report) → parts ≡ alone phrase
+      → x ≡ heldBy parts (run .receiver) → x ≡ heldAt call p a b n
   unfolding heldAt
-  poll-is k {run = run} r q h =
-      (λ i. heldBy (h i) (run .receiver)) ∙ (λ i. heldBy (alone (q i)) (run .receiver)) ∙ (λ i. polledBy (r i)) ∙ (λ i. heldAt (sym k i) p a b n)
+  poll-is k {run = run} r q h e =
+      e ∙ (λ i. heldBy (h i) (run .receiver)) ∙ (λ i. heldBy (alone (q i)) (run .receiver)) ∙ (λ i. polledBy (r i)) ∙ (λ i. heldAt (sym k i) p a b n)
 
   pub idle-is
-      : call ≡ 11 → {clock : ℕ} {phrase : Phrase} {parts : Parts} → clock ≡ (p .clock + a) % 2 ^ 32 → phrase ≡ idleAt p a .parts .last → parts ≡ alone phrase
-      → heldBy parts (ticked p clock) ≡ heldAt call p a b n
+      : call ≡ 11 → {clock : ℕ} {phrase : Phrase} {parts : Parts} {x : SlotAnswer} → clock ≡ (p .clock + a) % 2 ^ 32 → phrase ≡ idleAt p a .parts .last → parts ≡ alone phrase
+      → x ≡ heldBy parts (ticked p clock) → x ≡ heldAt call p a b n
   unfolding heldAt
-  idle-is k {clock = clock} r q h =
-      (λ i. heldBy (h i) (ticked p clock)) ∙ (λ i. heldBy (alone (q i)) (ticked p (r i))) ∙ (λ i. heldAt (sym k i) p a b n)
+  idle-is k {clock = clock} r q h e =
+      e ∙ (λ i. heldBy (h i) (ticked p clock)) ∙ (λ i. heldBy (alone (q i)) (ticked p (r i))) ∙ (λ i. heldAt (sym k i) p a b n)
 
   pub decoder-is
-      : eqb call 10 ≡ false → eqb call 11 ≡ false → {one : DecoderAnswer} → one ≡ askedAt call (p .decoder) a b n
-      → withDecoder p one ≡ heldAt call p a b n
+      : eqb call 10 ≡ false → eqb call 11 ≡ false → {one : DecoderAnswer} {x : SlotAnswer} → one ≡ askedAt call (p .decoder) a b n
+      → x ≡ withDecoder p one → x ≡ heldAt call p a b n
   unfolding heldAt
-  decoder-is e f h = passed _ _ _ _ e (passed _ _ _ _ f (ap (λ (x : DecoderAnswer). withDecoder p x) h))
+  decoder-is e f h g = passed _ _ _ _ e (passed _ _ _ _ f (g ∙ ap (λ (x : DecoderAnswer). withDecoder p x) h))
 
 -- on any slot
 module _ (call : ℕ) (slot : Slot) (n : List ℕ) {a b : ℕ} (p : a ≡ getD n 1 0 % 2 ^ 32) (q : b ≡ getD n 2 0 % 2 ^ 32) where

@@ -11,15 +11,15 @@ use Rattle.calls.specs.declared.on_slots.Slot.{Slot}
 use Rattle.calls.specs.declared.slots.SlotAnswer.{SlotAnswer}
 
 abbrev staying : Slot → Parts → SlotAnswer
-staying slot parts = record { is_open = slot .is_open; receiver = slot .receiver; parts = parts }
+staying slot parts = record { slot = slot; parts = parts }
 
 module _ (slot : Slot) (made built : PolledMade) (e : made ≡ built) (phrase : Phrase) (p : phrase ≡ answerPhrase (made .answer)) (parts : Parts) (h : parts ≡ alone phrase) (t : Bool) (i : t ≡ isTaken (made .answer)) where
   same : parts ≡ alone (answerPhrase (made .answer))
   same = h ∙ ap (λ (x : Phrase). alone x) p
 
-  pub opened-taken : t ≡ true → heldBy parts (made .receiver) ≡ openedBy slot built
-  opened-taken k =
-      ap (λ (x : Parts). heldBy x (made .receiver)) same ∙
+  pub opened-taken : t ≡ true → {x : SlotAnswer} → x ≡ heldBy parts (made .receiver) → x ≡ openedBy slot built
+  opened-taken k held =
+      held ∙ ap (λ (x : Parts). heldBy x (made .receiver)) same ∙
       ap (λ (b : Bool). cond b (heldBy (alone (answerPhrase (made .answer))) (made .receiver)) (staying slot (alone (answerPhrase (made .answer))))) (sym k ∙ i) ∙
       ap (λ (x : PolledMade). openedBy slot x) e
 

@@ -6,7 +6,7 @@ use mathlib.Core.List.{List, [], _∷_}
 use native.Mathlib.Nat.{not-suc-le-zero, le-of-suc-le-suc}
 use native.Mathlib.Numerals.{add-one}
 use lib.ListN.{getD, length, drop}
-use Rattle.words.specs.declared.Line.{Line}
+use Rattle.text.specs.declared.words.Line.{Line}
 use Rattle.calls.specs.Calls.{Range, Call, word64, calls, isIn, areFrom, isCall, firstIn, callOf}
 use Rattle.calls.specs.CallsSteps.{noCall, callAt}
 

@@ -2,7 +2,7 @@
 use Prim.Native.Nat.{ℕ}
 use mathlib.Core.Bool.{cond}
 use mathlib.Core.List.{List, _++_}
-use Rattle.answer_text.specs.AnswerText.{phraseText, partText}
+use Rattle.answers.specs.AsText.{phraseText, partText}
 use Rattle.calls.specs.declared.on_slots.Parts.{Parts}
 
 -- the head comes first where there is one

@@ -5,7 +5,7 @@ use mathlib.Core.Bool.{Bool, true, cond, _&&_}
 use mathlib.Core.List.{List, [], _∷_}
 use lib.Dec.{leb, eqb}
 use lib.ListN.{getD, length}
-use Rattle.words.specs.declared.Line.{Line}
+use Rattle.text.specs.declared.words.Line.{Line}
 use Rattle.answers.specs.Answers.{word}
 
 -- the least and the largest that a number may be

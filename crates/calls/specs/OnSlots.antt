@@ -28,7 +28,7 @@ placeOf call slot = cond (leb 9 call && leb call 11) (slot % 8 + 8) (slot % 16)
 -- a call on the slot at a place has answered
 abbrev pub storedAt : Slots → ℕ → SlotAnswer → Slots
 storedAt slots place answer =
-    record { slots = set (slots .slots) place (record { is_open = answer .is_open; receiver = answer .receiver }); parts = answer .parts }
+    record { slots = set (slots .slots) place (answer .slot); parts = answer .parts }
 
 abbrev pub answeredBy : ℕ → ℕ → List ℕ → Slots → Slots
 answeredBy call place n slots = storedAt slots place (calledOn call (getD (slots .slots) place closedSlot) n)

@@ -1,6 +1,5 @@
 -- A command's frame, sent at 1 MHz to a decoder: what it answers in parts, and the decoder after it.
 use Prim.Native.Nat.{ℕ, _%_, _^_}
-use mathlib.Core.Bool.{true}
 use mathlib.Core.List.{List}
 use lib.Dec.{eqb}
 use lib.ListN.{getD}
@@ -12,19 +11,14 @@ use Rattle.protocols.specs.declared.decoder.Decoder.{Decoder}
 use Rattle.promises.specs.Send.{sentOf, deviationsOf}
 use Rattle.promises.specs.declared.send.Sent.{Sent}
 use Rattle.answers.specs.Answers.{reportPhrase, refusedPhrase, edgePhrase}
-use Rattle.calls.specs.Parts.{alone}
+use Rattle.calls.specs.Parts.{alone, headed}
 use Rattle.calls.specs.declared.slots.DecoderAnswer.{DecoderAnswer}
 
 -- what the first edge reported; the number of the next one that reported anything, and how many others did; and its report
 abbrev pub sentBy : Sent → DecoderAnswer
 sentBy sent =
     record {
-      parts = record {
-        «has_head» = true;
-        first = reportPhrase (sent .first);
-        second = edgePhrase (sent .edge) (sent .others);
-        last = reportPhrase (sent .report);
-      };
+      parts = headed (reportPhrase (sent .first)) (edgePhrase (sent .edge) (sent .others)) (reportPhrase (sent .report));
       decoder = sent .decoder;
     }
 

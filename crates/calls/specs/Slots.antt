@@ -1,6 +1,6 @@
 -- What the calls of docs/CALLS.md on a slot do and answer. The calls are numbered as `calls` lists them.
 use Prim.Native.Nat.{ℕ, zero, suc, _%_, _^_}
-use mathlib.Core.Bool.{Bool, true, false, cond, _||_}
+use mathlib.Core.Bool.{Bool, true, cond, _||_}
 use mathlib.Core.List.{List, [], _∷_}
 use lib.Dec.{eqb}
 use lib.ListN.{getD}
@@ -14,7 +14,7 @@ use Rattle.polled.specs.declared.Polled.{Polled}
 use Rattle.polled.specs.declared.PolledMade.{PolledMade}
 use Rattle.answers.specs.Answers.{word, textOf, statusPhrase, reportPhrase, answerPhrase, isTaken, notOpen}
 use Rattle.answers.specs.declared.Phrase.{Phrase}
-use Rattle.calls.specs.Parts.{alone}
+use Rattle.calls.specs.Parts.{alone, headed}
 use Rattle.calls.specs.Counters.{counting}
 use Rattle.calls.specs.Send.{sendAt}
 use Rattle.calls.specs.declared.on_slots.Parts.{Parts}
@@ -25,13 +25,13 @@ use Rattle.calls.specs.declared.slots.PollRun.{PollRun}
 
 -- an open slot that holds a receiver, and what is answered
 abbrev pub heldBy : Parts → Polled → SlotAnswer
-heldBy parts receiver = record { is_open = true; receiver = receiver; parts = parts }
+heldBy parts receiver = record { slot = record { is_open = true; receiver = receiver }; parts = parts }
 
 -- `open` and `polled`: a fresh receiver; refused, the slot as it was
 abbrev pub openedBy : Slot → PolledMade → SlotAnswer
 openedBy slot made =
     let parts = alone (answerPhrase (made .answer)) in
-    cond (isTaken (made .answer)) (heldBy parts (made .receiver)) (record { is_open = slot .is_open; receiver = slot .receiver; parts = parts })
+    cond (isTaken (made .answer)) (heldBy parts (made .receiver)) (record { slot = slot; parts = parts })
 
 -- an answer of one part, and the decoder after it
 abbrev pub answering : Phrase → Decoder → DecoderAnswer
@@ -53,12 +53,7 @@ edgeAt d rising duration =
     let e = edgeEvent d (edge rising duration) in
     let t = edgeTotal d (edge rising duration) in
     record {
-      parts = record {
-        «has_head» = true;
-        first = statusPhrase (e .status);
-        second = reportPhrase (machine .command (e .decoder .memory));
-        last = reportPhrase (t .report);
-      };
+      parts = headed (statusPhrase (e .status)) (reportPhrase (machine .command (e .decoder .memory))) (reportPhrase (t .report));
       decoder = t .decoder;
     }
 
@@ -123,4 +118,4 @@ calledOn call slot n =
     let a = getD n 1 0 % 2 ^ 32 in
     let b = getD n 2 0 % 2 ^ 32 in
     cond (eqb call 3 || eqb call 9) (openedBy slot (polledAt a b))
-    (cond (slot .is_open) (heldAt call (slot .receiver) a b n) (record { is_open = false; receiver = slot .receiver; parts = alone notOpen }))
+    (cond (slot .is_open) (heldAt call (slot .receiver) a b n) (record { slot = slot; parts = alone notOpen }))

@@ -1,7 +1,7 @@
 // What a call answers, as text.
 use crate::on_slots::Parts;
-use answer_text::put_part;
-use answer_text::put_phrase;
+use answers::as_text::put_part;
+use answers::as_text::put_phrase;
 ghost use mathlib.Core.Path.{_≡_};
 ghost use Rattle.text.specs.Text.{putsOf};
 ghost use Rattle.calls.specs.CallText.{answerText};

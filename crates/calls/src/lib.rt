@@ -7,7 +7,7 @@ mod phrases;
 mod send;
 mod slots;
 
-use words::Line;
+use text::words::Line;
 ghost use mathlib.Core.Path.{_≡_};
 ghost use Prim.Native.Nat.{_<_, _≤_};
 ghost use lib.ListN.{length};

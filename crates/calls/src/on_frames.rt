@@ -1,7 +1,7 @@
 // The calls on frames: encode PROTOCOL RATE ADDRESS COMMAND START TOGGLE ROOM, and closed PROTOCOL RATE ADDRESS COMMAND ROOM.
 use frames::Encoded;
-use words::low_8;
-use words::low_32;
+use text::words::low_8;
+use text::words::low_32;
 ghost use mathlib.Core.Path.{_≡_};
 ghost use mathlib.Core.Bool.{cond};
 ghost use Prim.Native.Nat.{_≤_};

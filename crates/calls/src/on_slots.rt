@@ -63,11 +63,7 @@ fn stored(slots: Slots, place: usize, answer: SlotAnswer) -> Slots
     ensures { λ r. ⌜ r ≡ storedAt slots place answer ⌝ }
 {
     let mut after = slots;
-    let receiver = answer.receiver;
-    let slot = Slot {
-        is_open: answer.is_open,
-        receiver,
-    };
+    let slot = answer.slot;
     after.slots[place] = slot;
     let parts = answer.parts;
     after.parts = parts;

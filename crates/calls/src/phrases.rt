@@ -9,7 +9,7 @@ use answers::of_refused;
 use answers::text;
 use promises::send::least_silence;
 use promises::send::most_deviation;
-use words::low_32;
+use text::words::low_32;
 ghost use mathlib.Core.Path.{_≡_};
 ghost use Rattle.calls.specs.Phrases.{lookupPhrase, boundsOf, phraseOf};
 

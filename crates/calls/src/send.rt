@@ -1,7 +1,7 @@
 // A command's frame, sent at 1 MHz to a decoder: send SLOT ADDRESS COMMAND START TOGGLE SILENCE DEVIATION.
-use crate::on_slots::Parts;
 use crate::slots::DecoderAnswer;
-use crate::slots::alone;
+use crate::slots::headed;
+use crate::slots::said;
 use answers::of_edge;
 use answers::of_refused;
 use answers::of_report;
@@ -11,8 +11,8 @@ use promises::send::Sent;
 use promises::send::send_deviated;
 use protocols::decoder::Decoder;
 use protocols::decoder::Memory;
-use words::low_8;
-use words::low_32;
+use text::words::low_8;
+use text::words::low_32;
 ghost use mathlib.Core.Path.{_≡_};
 ghost use Rattle.protocols.specs.Decoder.{protocolOf};
 ghost use Rattle.calls.specs.Send.{sentBy, madeTo, sendAt};
@@ -36,15 +36,12 @@ fn sent_by(sent: Sent) -> DecoderAnswer
     let first = sent.first;
     let report = sent.report;
     let decoder = sent.decoder;
-    DecoderAnswer {
-        parts: Parts {
-            has_head: true,
-            first: of_report(first),
-            second: of_edge(sent.edge, sent.others),
-            last: of_report(report),
-        },
-        decoder,
-    }
+    let parts = headed(
+        of_report(first),
+        of_edge(sent.edge, sent.others),
+        of_report(report),
+    );
+    DecoderAnswer { parts, decoder }
 }
 
 // A protocol that has no encoder makes no command.
@@ -55,10 +52,7 @@ fn made_to(decoder: Decoder, made: CommandAnswer, silence: u32, deviation: u32) 
         CommandAnswer::Made(command) => {
             sent_by(send_deviated(decoder, command, silence, deviation))
         }
-        CommandAnswer::Refused(number) => {
-            let parts = alone(of_refused(number));
-            DecoderAnswer { parts, decoder }
-        }
+        CommandAnswer::Refused(number) => said(of_refused(number), decoder),
     }
 }
 

@@ -14,11 +14,11 @@ use polled::Polled;
 use polled::poll_through;
 use protocols::decoder::Decoder;
 use reports::Report;
-use words::low_32;
+use text::words::low_32;
 ghost use mathlib.Core.Path.{_≡_};
 ghost use Rattle.polled.specs.Polled.{polledAt};
-ghost use Rattle.calls.specs.Parts.{alone};
-ghost use Rattle.calls.specs.Slots.{openedBy, edgeAt, askedAt, firstOf, polledAgain, pollsAt, heldAt, calledOn};
+ghost use Rattle.calls.specs.Parts.{alone, headed};
+ghost use Rattle.calls.specs.Slots.{answering, heldBy, openedBy, edgeAt, askedAt, firstOf, polledAgain, pollsAt, heldAt, calledOn};
 
 // What a call on a decoder answers, and the decoder after it.
 pub struct DecoderAnswer {
@@ -26,10 +26,9 @@ pub struct DecoderAnswer {
     pub decoder: Decoder,
 }
 
-// What a call on a slot answers, and what the slot is after it.
+// What a call on a slot answers, and the slot after it.
 pub struct SlotAnswer {
-    pub is_open: bool,
-    pub receiver: Polled,
+    pub slot: Slot,
     pub parts: Parts,
 }
 
@@ -51,27 +50,49 @@ pub fn alone(phrase: Phrase) -> Parts
     }
 }
 
+// An answer of three parts.
+pub fn headed(first: Phrase, second: Phrase, last: Phrase) -> Parts
+    ensures { λ r. ⌜ r ≡ headed first second last ⌝ }
+{
+    Parts {
+        has_head: true,
+        first,
+        second,
+        last,
+    }
+}
+
+// An answer of one part, and the decoder after it.
+pub fn said(phrase: Phrase, decoder: Decoder) -> DecoderAnswer
+    ensures { λ r. ⌜ r ≡ answering phrase decoder ⌝ }
+{
+    let parts = alone(phrase);
+    DecoderAnswer { parts, decoder }
+}
+
+// An answer, and an open slot that holds a receiver.
+fn holding(parts: Parts, receiver: Polled) -> SlotAnswer
+    ensures { λ r. ⌜ r ≡ heldBy parts receiver ⌝ }
+{
+    let slot = Slot {
+        is_open: true,
+        receiver,
+    };
+    SlotAnswer { slot, parts }
+}
+
 // A refused open leaves the slot as it was.
 fn opened(slot: Slot, protocol: u32, rate: u32) -> SlotAnswer
     ensures { λ r. ⌜ r ≡ openedBy slot (polledAt protocol rate) ⌝ }
 {
     let made = Polled::new(protocol, rate);
     let answer = made.answer;
-    let receiver = made.receiver;
     let parts = alone(of_answer(answer));
     if is_taken(answer) {
-        return SlotAnswer {
-            is_open: true,
-            receiver,
-            parts,
-        };
+        let receiver = made.receiver;
+        return holding(parts, receiver);
     }
-    let receiver = slot.receiver;
-    SlotAnswer {
-        is_open: slot.is_open,
-        receiver,
-        parts,
-    }
+    SlotAnswer { slot, parts }
 }
 
 // The status of the step, the command after it, and what event_total reports: the decoder goes on as after that.
@@ -84,13 +105,13 @@ fn edge(decoder: Decoder, rising: bool, duration: u32) -> DecoderAnswer
     let t = decoder.event_total(rising, duration);
     let report = t.report;
     let after = t.decoder;
+    let parts = headed(
+        of_status(status),
+        of_report(stepped.command()),
+        of_report(report),
+    );
     DecoderAnswer {
-        parts: Parts {
-            has_head: true,
-            first: of_status(status),
-            second: of_report(stepped.command()),
-            last: of_report(report),
-        },
+        parts,
         decoder: after,
     }
 }
@@ -104,32 +125,19 @@ fn asked(call: usize, decoder: Decoder, a: u32, b: u32, n: &[u64; 8]) -> Decoder
             let e = decoder.event(a == 1, b);
             let status = e.status;
             let decoder = e.decoder;
-            let parts = alone(of_status(status));
-            DecoderAnswer { parts, decoder }
+            said(of_status(status), decoder)
         }
         crate::TOTAL => {
             let t = decoder.event_total(a == 1, b);
             let report = t.report;
             let decoder = t.decoder;
-            let parts = alone(of_report(report));
-            DecoderAnswer { parts, decoder }
+            said(of_report(report), decoder)
         }
         crate::EDGE => edge(decoder, a == 1, b),
-        crate::RESET => {
-            let parts = alone(text(answers::RESET, 0));
-            let decoder = decoder.reset();
-            DecoderAnswer { parts, decoder }
-        }
-        crate::COUNTER => {
-            let parts = alone(text(answers::COUNTER, 0));
-            let decoder = counting(decoder, a == 1, b);
-            DecoderAnswer { parts, decoder }
-        }
+        crate::RESET => said(text(answers::RESET, 0), decoder.reset()),
+        crate::COUNTER => said(text(answers::COUNTER, 0), counting(decoder, a == 1, b)),
         crate::SEND => send(decoder, n),
-        _ => {
-            let parts = alone(of_report(decoder.command()));
-            DecoderAnswer { parts, decoder }
-        }
+        _ => said(of_report(decoder.command()), decoder),
     }
 }
 
@@ -182,33 +190,19 @@ fn held(call: usize, receiver: Polled, a: u32, b: u32, n: &[u64; 8]) -> SlotAnsw
         let run = polls(receiver, a == 1, b);
         let report = run.report;
         let receiver = run.receiver;
-        let parts = alone(of_report(report));
-        return SlotAnswer {
-            is_open: true,
-            receiver,
-            parts,
-        };
+        return holding(alone(of_report(report)), receiver);
     }
     let mut receiver = receiver;
     if call == crate::IDLE {
         receiver.clock = std::num::wrapping_add_u32(receiver.clock, a);
-        let parts = alone(text(answers::IDLE, 0));
-        return SlotAnswer {
-            is_open: true,
-            receiver,
-            parts,
-        };
+        return holding(alone(text(answers::IDLE, 0)), receiver);
     }
     let decoder = receiver.decoder;
     let one = asked(call, decoder, a, b, n);
     let decoder = one.decoder;
     receiver.decoder = decoder;
     let parts = one.parts;
-    SlotAnswer {
-        is_open: true,
-        receiver,
-        parts,
-    }
+    holding(parts, receiver)
 }
 
 // A call on a slot, with its numbers.
@@ -220,14 +214,10 @@ pub fn called(call: usize, slot: Slot, n: &[u64; 8]) -> SlotAnswer
     if (call == crate::OPEN) | (call == crate::POLLED) {
         return opened(slot, a, b);
     }
-    let receiver = slot.receiver;
     if slot.is_open {
+        let receiver = slot.receiver;
         return held(call, receiver, a, b, n);
     }
     let parts = alone(not_open());
-    SlotAnswer {
-        is_open: false,
-        receiver,
-        parts,
-    }
+    SlotAnswer { slot, parts }
 }

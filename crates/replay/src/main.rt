@@ -15,9 +15,9 @@ use on_frames::put_closed_call;
 use on_frames::put_encode_call;
 use on_spans::put_spans_call;
 use text::put;
-use words::Line;
-use words::fresh;
-use words::is_begun;
+use text::words::Line;
+use text::words::fresh;
+use text::words::is_begun;
 
 // What is read and not yet used: a part of the lent buffer; and the byte read last.
 pub struct Input {
@@ -108,7 +108,7 @@ fn read_line(buf: &mut [u8], start: Input, numbers: &mut [u64; 8]) -> Reading {
         if input.byte == b'\n' {
             return Reading { line, input };
         }
-        line = words::fed(line, numbers, input.byte);
+        line = text::words::fed(line, numbers, input.byte);
         left -= 1;
     }
     Reading { line, input }

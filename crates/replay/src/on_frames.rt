@@ -1,5 +1,5 @@
 // The calls on frames: encode PROTOCOL RATE ADDRESS COMMAND START TOGGLE ROOM, and closed PROTOCOL RATE ADDRESS COMMAND ROOM.
-use answer_text::put_phrase;
+use answers::as_text::put_phrase;
 use answers::of_encoded;
 use answers::of_unwritten;
 use calls::on_frames::encode;

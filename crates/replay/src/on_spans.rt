@@ -1,9 +1,9 @@
 // The call on spans: spans PROTOCOL RATE.
-use answer_text::put_phrase;
-use answer_text::put_spans;
+use answers::as_text::put_phrase;
+use answers::as_text::put_spans;
 use answers::is_taken;
 use answers::of_answer;
-use words::low_32;
+use text::words::low_32;
 
 pub fn put_spans_call(text: &mut [u8], at: usize, protocol: u64, rate: u64) -> usize {
     let built = spans::spans_of(low_32(protocol), low_32(rate));

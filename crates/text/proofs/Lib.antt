@@ -1,4 +1,6 @@
 pub mod Puts
 pub mod Parts
 pub mod Shown
+pub mod Tests
+pub mod Bytes
 pub mod Determined

@@ -1,4 +1,6 @@
-// Text that gathers in a lent slice. Each function takes the place where its text starts, and answers the next one.
+// A line of text as the programs read it (`words`), and text that gathers in a lent slice. Each function here takes the place where its text starts, and answers the next one.
+pub mod words;
+
 ghost use mathlib.Core.Path.{_≡_};
 ghost use Rattle.text.specs.Text.{putOf, putsOf, firstLetter, otherLetters, letters, digitAt, decimal, nextText, numbersText};
 

@@ -14,4 +14,4 @@ made-to-spec =
     (λ c κs. tt)
     (λ c κs. tt)
     (λ c. simp (c .sent-by .ensures, c .before .send-deviated .ensures, c .before .before .before .made .given .1))
-    (λ c. simp (c .alone .ensures, c .before .of-refused .ensures, c .before .before .before .made2 .given .1)))
+    (λ c. simp (c .said .ensures, c .before .of-refused .ensures, c .before .before .before .made2 .given .1)))

@@ -4,4 +4,4 @@ use Rattle.calls.proofs.send.sent_by.Tie as tie
 
 pub sent-by-spec : {M : Type 1} → statement M
 sent-by-spec =
-    tie.close (tie.spec (λ c κs. tt) (λ c κs. tt) (λ c κs. tt) (λ c. simp (c .of-report2 .ensures, c .before .of-edge .ensures, c .before .before .of-report .ensures)))
+    tie.close (tie.spec (λ c κs. tt) (λ c κs. tt) (λ c κs. tt) (λ c κs. tt) (λ c. simp (c .headed .ensures, c .before .of-report2 .ensures, c .before .before .of-edge .ensures, c .before .before .before .of-report .ensures)))

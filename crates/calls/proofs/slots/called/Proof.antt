@@ -13,12 +13,12 @@ returns-2 : tie.Need-returns-2
 returns-2 c =
     let test = c .before .before .before in
     let second = test .before in
-    held-is _ _ _ (second .before .before .low-32 .ensures) (second .low-322 .ensures) (test .if1 .left) (c .before .if2 .taken) (c .held .ensures)
+    held-is _ _ _ (second .before .before .low-32 .ensures) (second .low-322 .ensures) (test .if1 .left) (c .before .before .if2 .taken) (c .held .ensures)
 
 returns-3 : tie.Need-returns-3
 returns-3 c =
     let closed = c .before .before in
-    let test = closed .before .before in
+    let test = closed .before in
     let second = test .before in
     closed-is _ _ _ (second .before .before .low-32 .ensures) (second .low-322 .ensures) (test .if1 .left) (closed .if2 .left) (c .before .not-open .ensures) (c .alone .ensures)
 

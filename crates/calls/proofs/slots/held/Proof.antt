@@ -6,20 +6,20 @@ use Rattle.calls.proofs.slots.held.Tie as tie
 
 returns : tie.Need-returns
 returns c =
-    let polls = c .before .before .before in
-    poll-is _ _ _ _ _ (polls .before .if1 .taken) (polls .polls .ensures) (c .before .of-report .ensures) (c .alone .ensures)
+    let polls = c .before .before .before .before in
+    poll-is _ _ _ _ _ (polls .before .if1 .taken) (polls .polls .ensures) (c .before .before .of-report .ensures) (c .before .alone .ensures) (c .holding .ensures)
 
 returns-2 : tie.Need-returns-2
 returns-2 c =
-    let clock = c .before .before in
-    idle-is _ _ _ _ _ (clock .before .if2 .taken) (clock .wrapping-add-u32 .ensures) (c .before .text .ensures) (c .alone2 .ensures)
+    let clock = c .before .before .before in
+    idle-is _ _ _ _ _ (clock .before .if2 .taken) (clock .wrapping-add-u32 .ensures) (c .before .before .text .ensures) (c .before .alone2 .ensures) (c .holding2 .ensures)
 
 returns-3 : tie.Need-returns-3
 returns-3 c =
-    let asked = c .before .before in
+    let asked = c .before .before .before in
     let test = asked .before .before in
-    decoder-is _ _ _ _ _ (ne-eqb _ _ (test .before .if1 .left)) (ne-eqb _ _ (test .if2 .left)) (asked .asked .ensures)
+    decoder-is _ _ _ _ _ (ne-eqb _ _ (test .before .if1 .left)) (ne-eqb _ _ (test .if2 .left)) (asked .asked .ensures) (c .holding3 .ensures)
 
 pub held-spec : {M : Type 1} → statement M
 held-spec =
-    tie.close (tie.spec (λ c κs. tt) (λ c κs. tt) (λ c κs. tt) returns (λ c κs. tt) (λ c κs. tt) (λ c κs. tt) returns-2 (λ c κs. tt) returns-3)
+    tie.close (tie.spec (λ c κs. tt) (λ c κs. tt) (λ c κs. tt) (λ c κs. tt) returns (λ c κs. tt) (λ c κs. tt) (λ c κs. tt) (λ c κs. tt) returns-2 (λ c κs. tt) (λ c κs. tt) returns-3)

@@ -5,15 +5,15 @@ use Rattle.calls.proofs.slots.opened.Tie as tie
 
 returns : tie.Need-returns
 returns c =
-    let parts = c .before .before in
-    let new = parts .before .before .before in
-    opened-taken _ _ _ (new .new .ensures) _ (parts .before .of-answer .ensures) _ (parts .alone .ensures) _ (c .before .is-taken .ensures) (c .if1 .taken)
+    let parts = c .before .before .before .before in
+    let new = parts .before .before in
+    opened-taken _ _ _ (new .new .ensures) _ (parts .before .of-answer .ensures) _ (parts .alone .ensures) _ (c .before .before .before .is-taken .ensures) (c .before .before .if1 .taken) (c .holding .ensures)
 
 returns-2 : tie.Need-returns-2
 returns-2 c =
-    let parts = c .before .before .before in
-    let new = parts .before .before .before in
-    opened-refused _ _ _ (new .new .ensures) _ (parts .before .of-answer .ensures) _ (parts .alone .ensures) _ (c .before .before .is-taken .ensures) (c .before .if1 .left)
+    let parts = c .before .before in
+    let new = parts .before .before in
+    opened-refused _ _ _ (new .new .ensures) _ (parts .before .of-answer .ensures) _ (parts .alone .ensures) _ (c .before .is-taken .ensures) (c .if1 .left)
 
 pub opened-spec : {M : Type 1} → statement M
-opened-spec = tie.close (tie.spec (λ c κs. tt) (λ c κs. tt) (λ c κs. tt) (λ c κs. tt) returns returns-2)
+opened-spec = tie.close (tie.spec (λ c κs. tt) (λ c κs. tt) (λ c κs. tt) (λ c κs. tt) (λ c κs. tt) returns returns-2)
