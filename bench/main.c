@@ -1,6 +1,6 @@
 /* The driver of bench/run: makes edges, commands or levels and hands them to one side.
  *   main SIDE KIND PROTOCOL COUNT
- * SIDE is ours or crate. KIND is frames or noise: edges, at 1 MHz, the first one rising; build: decoders, handed no edge; encode: commands; quiet, changing or polled: levels, at 40 kHz, that
+ * SIDE is ours, crate, or for polls typed: ours, with the protocol's own receiver. KIND is frames or noise: edges, at 1 MHz, the first one rising; build: decoders, handed no edge; encode: commands; quiet, changing or polled: levels, at 40 kHz, that
  * never change, change at each poll, or are those of the frames. COUNT is how many of them are handed over; prints the number that the reports, or the lengths of the
  * encoded frames, come to. Both sides get the same. All is made whatever the COUNT, so that between two COUNTs only the work differs.
  *   main SIDE KIND PROTOCOL stack
@@ -27,7 +27,7 @@ typedef size_t encode_frame(uint8_t addr, uint8_t cmd, uint8_t start, bool toggl
 run_polls bench_polls;
 #define SIDES(name) \
     run_edges bench_##name, crate_##name; \
-    run_polls crate_polls_##name; \
+    run_polls bench_typed_##name, crate_polls_##name; \
     encode_frame bench_encode_##name, crate_encode_##name; \
     extern const size_t crate_record_##name, crate_polled_record_##name;
 SIDES(nec) SIDES(rc5) SIDES(rc6) SIDES(sbp) SIDES(denon)
@@ -108,14 +108,14 @@ static void make_noise(void) {
 
 struct row {
     const char *name;
-    run_edges *edges[2];
-    run_polls *polls[2];
+    run_edges *edges[2]; /* ours, the crate's */
+    run_polls *polls[3]; /* and typed */
     const size_t *record, *polled_record; /* the crate's */
     encode_frame *encode[2];
     void (*frame)(void);
 };
 
-#define RUNS(name) #name, {bench_##name, crate_##name}, {bench_polls, crate_polls_##name}, &crate_record_##name, &crate_polled_record_##name
+#define RUNS(name) #name, {bench_##name, crate_##name}, {bench_polls, crate_polls_##name, bench_typed_##name}, &crate_record_##name, &crate_polled_record_##name
 
 static const struct row rows[] = {
     {RUNS(nec), {bench_encode_nec, crate_encode_nec}, nec_frame},
@@ -240,7 +240,7 @@ static void make(const struct row *row, const char *kind) {
 
 int main(int argc, char **argv) {
     if (argc != 5) return 2;
-    int side = !strcmp(argv[1], "crate");
+    int side = !strcmp(argv[1], "crate") ? 1 : !strcmp(argv[1], "typed") ? 2 : 0;
     const char *kind = argv[2], *count = argv[4];
     for (size_t i = 0; i < sizeof rows / sizeof rows[0]; i++)
         if (!strcmp(argv[3], rows[i].name)) {

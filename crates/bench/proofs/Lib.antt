@@ -1,4 +1,0 @@
-pub mod Summing
-pub mod Polling
-pub mod Calls
-pub mod Determined
