@@ -28,15 +28,18 @@
  *         return not_a_pulse();
  *     return pulse(place);
  *
+ * A fitter's tool asks seat_measure instead. It also tells how far the pulse
+ * lies from the length that it should have.
+ *
  * WHAT THE CALLER OWES
  *
  * Numbers: nothing. Every value of every number is answered.
  *
  * Pointers:
  *
- *  - `frame` points to `room` places that may be written. `length` and `place`
- *    point to one number each. What they point to need hold nothing before the
- *    call. All are aligned as their types ask, and none is null.
+ *  - `frame` points to `room` places that may be written. `length`, `place` and
+ *    `difference` point to one number each. What they point to need hold nothing
+ *    before the call. All are aligned as their types ask, and none is null.
  *  - What the pointers of one call point to does not overlap, and nobody else
  *    uses it during the call.
  *  - Room 0 is the one exception: `frame` may then be NULL. The proof speaks of
@@ -46,7 +49,8 @@
  *
  * THE MACHINE
  *
- * Counts of places are 64 bits wide on every machine, and aligned to 8 bytes.
+ * Counts of places and differences are 64 bits wide on every machine, and
+ * aligned to 8 bytes. A negative difference is in two's complement.
  *
  *  - thumbv6m-none-eabi: Cortex-M0 and other ARMv6-M.
  *  - thumbv7em-none-eabi: Cortex-M4 and other ARMv7E-M, with the soft-float
@@ -241,6 +245,35 @@ uint32_t seat_encode_closed(uint32_t protocol, uint32_t rate,
  * \return  `SEAT_DONE` (0), or the refusal number: 2 or 1.
  */
 uint32_t seat_lookup(uint32_t protocol, uint32_t rate, uint64_t duration, uint32_t *place);
+
+/**
+ * \brief Find the pulse that a duration is, and how far off it is.
+ *
+ * The place is the one that `seat_lookup` finds. The difference is the duration
+ * less the base of that place's span: negative where the pulse is short, positive
+ * where it is long, and 0 where it is just as long as it should be. The base is
+ * the pulse length in ticks of `rate`, rounded down; for the places that hold
+ * duration 0 alone it is 0. A difference never lies beyond the span's tolerance,
+ * so it is at most 9,141 either way (NEC's sync at `SEAT_LAST_RATE`).
+ *
+ * Refusals, in the order in which they are tested, and nothing else is refused:
+ *
+ *  - `SEAT_REFUSED_PROTOCOL` (2): `protocol` is not 1 to 5.
+ *  - `SEAT_REFUSED_RATE` (1): `rate` is 0 or above `SEAT_LAST_RATE`.
+ *
+ * A refused call writes nothing: `*place` and `*difference` are as they were.
+ * Where no span holds the duration, `*place` is `SEAT_NO_PLACE` and `*difference`
+ * is as it was.
+ *
+ * \param protocol   protocol number, `SEAT_NEC` to `SEAT_DENON`.
+ * \param rate       ticks a second, 1 to `SEAT_LAST_RATE`.
+ * \param duration   duration, or sum of two, in ticks of `rate`.
+ * \param place      receives the place, 0 to 7, or `SEAT_NO_PLACE` (8).
+ * \param difference receives the difference, where there is a place.
+ * \return  `SEAT_DONE` (0), or the refusal number: 2 or 1.
+ */
+uint32_t seat_measure(uint32_t protocol, uint32_t rate, uint64_t duration,
+	uint32_t *place, int64_t *difference);
 
 #ifdef __cplusplus
 }

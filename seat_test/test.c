@@ -1,5 +1,6 @@
 /*
- * Calls seat_encode, seat_encode_closed and seat_lookup from C and holds them to include/dorzhimu_seat.h, on any machine that has machine.h.
+ * Calls seat_encode, seat_encode_closed, seat_lookup and seat_measure from C and holds them to include/dorzhimu_seat.h, on any machine that has
+ * machine.h.
  *
  * The recorded lists are those of crates/replay, its stdin and stdout: a call on each line, and the crate's answer on the same line.
  * The last line printed is the number of checks, and a number of all that was answered: it is the same on every machine. The first failure is
@@ -12,6 +13,9 @@
 #define GUARD 16      /* places on either side of a lent buffer */
 #define LENT (GUARD + MOST_ROOM + GUARD)
 #define HELD 902      /* what a lent number holds before a call; refusals 2 and 1 leave it */
+#define PLACES 8
+
+#define COUNT(table) (sizeof(table) / sizeof *(table))
 
 static uint32_t checks;
 
@@ -132,9 +136,49 @@ static void lookup_gives(uint32_t protocol, uint32_t rate, uint64_t duration, ui
 	check(places[0] == 901 && places[2] == 903, "the numbers beside the place are kept");
 }
 
-/* ---- refusals, and the order in which they are tested ---- */
+/* ---- one call of seat_measure ---- */
 
-#define COUNT(table) (sizeof(table) / sizeof *(table))
+struct measured {
+	uint32_t number;
+	uint32_t place; /* where number is 0 */
+	int64_t difference; /* where there is a place */
+};
+
+/* What both lent numbers hold before a call. */
+struct before {
+	uint32_t place;
+	int64_t difference;
+};
+
+/* The lent numbers stand between others. What the call does not write is as it was. */
+static void measure_leaves(uint32_t protocol, uint32_t rate, uint64_t duration, const struct measured *m, struct before b)
+{
+	uint32_t places[3] = {901, b.place, 903};
+	int64_t differences[3] = {-901, b.difference, -903};
+	bool done = m->number == SEAT_DONE, found = done && m->place != SEAT_NO_PLACE;
+
+	check(seat_measure(protocol, rate, duration, &places[1], &differences[1]) == m->number, "the number that seat_measure returns");
+	note(m->number);
+	note(places[1]);
+	note((uint32_t)differences[1]);
+	note((uint32_t)((uint64_t)differences[1] >> 32));
+	check(places[1] == (done ? m->place : b.place), "the place that seat_measure leaves");
+	check(differences[1] == (found ? m->difference : b.difference), "the difference that seat_measure leaves");
+	check(places[0] == 901 && places[2] == 903, "the numbers beside the place are kept");
+	check(differences[0] == -901 && differences[2] == -903, "the numbers beside the difference are kept");
+}
+
+/* Whatever the lent numbers hold; and seat_lookup gives the same place. */
+static void measure_gives(uint32_t protocol, uint32_t rate, uint64_t duration, const struct measured *m)
+{
+	static const struct before befores[] = {{HELD, HELD}, {SEAT_NO_PLACE, 0}, {0, -1}, {UINT32_MAX, INT64_MIN}};
+
+	for (size_t i = 0; i < COUNT(befores); i++)
+		measure_leaves(protocol, rate, duration, m, befores[i]);
+	lookup_gives(protocol, rate, duration, m->number, m->number == SEAT_DONE ? m->place : HELD);
+}
+
+/* ---- refusals, and the order in which they are tested ---- */
 
 static const uint32_t rates_taken[] = {1, 999, 1000, 1001, 38000, 1000000, SEAT_LAST_RATE - 1, SEAT_LAST_RATE};
 static const uint32_t rates_refused[] = {0, SEAT_LAST_RATE + 1, 10000000, 0x80000000u, UINT32_MAX - 1, UINT32_MAX};
@@ -176,13 +220,14 @@ static void encode_refusals(void)
 	}
 }
 
-/* Duration 0 is among those tried: the spans of a refused answer would hold it. */
+/* Of both calls. Duration 0 is among those tried: the spans of a refused answer would hold it. */
 static void lookup_refused(uint32_t protocol, uint32_t rate, uint32_t number)
 {
 	static const uint64_t durations[] = {0, 1, 889, 13500, UINT32_MAX, UINT64_C(1) << 32, UINT64_MAX};
+	struct measured m = {number, 0, 0};
 
 	for (size_t i = 0; i < COUNT(durations); i++)
-		lookup_gives(protocol, rate, durations[i], number, HELD);
+		measure_gives(protocol, rate, durations[i], &m);
 }
 
 static void lookup_refusals(void)
@@ -223,6 +268,7 @@ static void printed_numbers(void)
 		{SEAT_RC6, 1989, 3}, {SEAT_RC6, 1990, 4}, {SEAT_RC6, 2486, 4}, {SEAT_RC6, 2487, 5}, {SEAT_RC6, 2984, 8},
 		{SEAT_RC5, 0, 2}, {SEAT_RC6, 0, 6},
 	};
+	struct measured none = {SEAT_DONE, SEAT_NO_PLACE, 0};
 	struct command rc5 = {SEAT_RC5, 1000000, 0, 0, 3, false, false};
 	struct answer a = {SEAT_DONE, 26, {0, 889, 889, 1778}};
 
@@ -233,7 +279,66 @@ static void printed_numbers(void)
 	every_room(&rc5, &a);
 	for (uint32_t protocol = SEAT_NEC; protocol <= SEAT_DENON; protocol++)
 		for (uint64_t duration = UINT64_C(1) << 32; duration != 0; duration <<= 1)
-			lookup_gives(protocol, SEAT_LAST_RATE, duration, SEAT_DONE, SEAT_NO_PLACE);
+			measure_gives(protocol, SEAT_LAST_RATE, duration, &none);
+}
+
+/* ---- durations about each end and each base, by document 01's rule ---- */
+
+struct span {
+	uint32_t low, base, high;
+};
+
+static struct span span_at(uint32_t protocol, uint32_t rate, size_t place)
+{
+	static const uint32_t lengths[SEAT_DENON][PLACES] = {
+		{13500, 11250, 1120, 2250}, {889, 1778}, {444, 888, 1332, 1776, 2220, 2664}, {9000, 5000, 1000, 2000}, {5000, 840, 1680},
+	};
+	static const uint32_t percents[SEAT_DENON][PLACES] = {
+		{7, 7, 5, 5}, {12, 10}, {12, 12, 12, 12, 12, 12}, {5, 5, 10, 10}, {8, 10, 10},
+	};
+	uint32_t base = (uint32_t)((uint64_t)lengths[protocol - SEAT_NEC][place] * rate / 1000000);
+	uint32_t margin = base * percents[protocol - SEAT_NEC][place] / 100;
+
+	return (struct span){base - margin, base, base + margin};
+}
+
+/* The lowest place whose span holds the duration, and its difference from that span's base. */
+static void measure_by_rule(uint32_t protocol, uint32_t rate, uint64_t duration)
+{
+	struct measured m = {SEAT_DONE, SEAT_NO_PLACE, 0};
+
+	for (uint32_t place = PLACES; place-- > 0;) {
+		struct span s = span_at(protocol, rate, place);
+
+		if (s.low <= duration && duration <= s.high)
+			m = (struct measured){SEAT_DONE, place, (int64_t)duration - s.base};
+	}
+	measure_gives(protocol, rate, duration, &m);
+}
+
+/* At each end and base, one less and one more; one less than 0 is above 32 bits. */
+static void about_spans(uint32_t protocol, uint32_t rate)
+{
+	for (size_t place = 0; place < PLACES; place++) {
+		struct span s = span_at(protocol, rate, place);
+
+		for (uint64_t more = 0; more < 3; more++) {
+			measure_by_rule(protocol, rate, s.low + more - 1);
+			measure_by_rule(protocol, rate, s.base + more - 1);
+			measure_by_rule(protocol, rate, s.high + more - 1);
+		}
+	}
+}
+
+/* And at 40 kHz every duration, past the longest span. */
+static void measures(void)
+{
+	for (uint32_t protocol = SEAT_NEC; protocol <= SEAT_DENON; protocol++) {
+		for (size_t i = 0; i < COUNT(rates_taken); i++)
+			about_spans(protocol, rates_taken[i]);
+		for (uint64_t duration = 0; duration < 600; duration++)
+			measure_by_rule(protocol, 40000, duration);
+	}
 }
 
 /* ---- every command has room in SEAT_LONGEST places ---- */
@@ -373,6 +478,18 @@ static uint64_t take_number(enum list list)
 	return n;
 }
 
+/* A number that may have a sign. */
+static int64_t take_signed(enum list list)
+{
+	bool is_negative = peek(list) == '-';
+	int64_t n;
+
+	if (is_negative)
+		take(list);
+	n = (int64_t)take_number(list);
+	return is_negative ? -n : n;
+}
+
 /* The rest of an answer to encode, after its first word. */
 static void take_answer(const char *word, size_t room, struct answer *a)
 {
@@ -438,10 +555,29 @@ static void recorded_lookup(const char *answer)
 	}
 }
 
+static void recorded_measure(const char *answer)
+{
+	uint32_t protocol = (uint32_t)take_number(CALLS);
+	uint32_t rate = (uint32_t)take_number(CALLS);
+	uint64_t duration = take_number(CALLS);
+	struct measured m = {SEAT_DONE, SEAT_NO_PLACE, 0};
+
+	if (is(answer, "place")) {
+		m.place = (uint32_t)take_number(ANSWERS);
+		check(m.place < PLACES && takes(ANSWERS, "difference"), "a recorded place has a difference");
+		m.difference = take_signed(ANSWERS);
+	} else if (is(answer, "refused")) {
+		m.number = (uint32_t)take_number(ANSWERS);
+	} else {
+		check(is(answer, "none"), "a recorded answer is a place, none or refused");
+	}
+	measure_gives(protocol, rate, duration, &m);
+}
+
 /* Calls of another kind, and those that are not understood, are passed over. */
 static void recorded(void)
 {
-	uint32_t lookups = 0;
+	uint32_t lookups = 0, measured = 0;
 
 	while (peek(CALLS) != END) {
 		char call[WORD], answer[WORD];
@@ -455,6 +591,9 @@ static void recorded(void)
 		} else if (is(call, "lookup") && !is(answer, "not")) {
 			recorded_lookup(answer);
 			lookups++;
+		} else if (is(call, "measure") && !is(answer, "not")) {
+			recorded_measure(answer);
+			measured++;
 		}
 		skip_line(CALLS);
 		skip_line(ANSWERS);
@@ -462,7 +601,7 @@ static void recorded(void)
 	check(peek(ANSWERS) == END, "each recorded call has an answer");
 	for (size_t i = 0; i < COUNT(frames); i++)
 		check(frames[i] > 0, "frames of all three protocols, and closed ones, are recorded");
-	check(lookups > 0, "lookups are recorded");
+	check(lookups > 0 && measured > 0, "lookups and measures are recorded");
 }
 
 void run_checks(void)
@@ -470,6 +609,7 @@ void run_checks(void)
 	encode_refusals();
 	lookup_refusals();
 	printed_numbers();
+	measures();
 	recorded();
 	longest_frames();
 	closed_frames();

@@ -5,7 +5,7 @@
 use std::fmt;
 use std::io::{self, BufRead, Write};
 
-use crate::calls::Call;
+use crate::calls::{Call, Lookup};
 use crate::document::{self, Protocol, Spans};
 use crate::encode;
 use crate::frames;
@@ -101,13 +101,10 @@ impl fmt::Display for Counts {
 pub fn answer(call: &Call, slots: &mut Slots, text: &mut Vec<u8>) -> Source {
     let told = match *call {
         Call::Spans { protocol, rate } => spans(protocol, rate),
-        Call::Lookup {
-            protocol,
-            rate,
-            duration,
-        } => lookup(protocol, rate, duration),
+        Call::Lookup(ref call) => lookup(call),
         Call::Encode(ref call) => return encode::answer(call, text),
         Call::ClosedFrame(ref call) => return encode::answer_closed(call, text),
+        Call::Measure(ref call) => measure(call),
         Call::Open {
             slot,
             protocol,
@@ -157,10 +154,22 @@ fn spans(protocol: u32, rate: u32) -> Told {
     Ok((shown.join(" "), source))
 }
 
-fn lookup(protocol: u32, rate: u32, duration: u64) -> Told {
-    let protocol = document::admit(protocol, rate)?;
-    let (place, source) = expected_place(protocol, rate, duration);
+fn lookup(call: &Lookup) -> Told {
+    let protocol = document::admit(call.protocol, call.rate)?;
+    let (place, source) = expected_place(protocol, call.rate, call.duration);
     Ok((show_place(place, "place "), source))
+}
+
+/// The place is as for `lookup`.
+fn measure(call: &Lookup) -> Told {
+    let protocol = document::admit(call.protocol, call.rate)?;
+    let (place, source) = expected_place(protocol, call.rate, call.duration);
+    let mut shown = show_place(place, "place ");
+    if let Some(place) = place {
+        let difference = expected_difference(protocol, place, call.rate, call.duration);
+        shown.push_str(&format!(" difference {}", difference));
+    }
+    Ok((shown, source))
 }
 
 fn bounds(protocol: u32) -> Told {
@@ -190,6 +199,29 @@ pub fn expected_place(protocol: Protocol, rate: u32, duration: u64) -> (Option<u
         (Ok(short), Source::Crate) => (oracle::lookup(protocol, rate, short), source),
         (Ok(_), _) => (document::lookup(&spans, duration), source),
     }
+}
+
+/// The difference of a duration from the base of the span that holds it. The crate keeps no base:
+/// it is document 01's. It is the middle of the expected span, and the difference is within the
+/// margin, or we end here.
+pub fn expected_difference(protocol: Protocol, place: usize, rate: u32, duration: u64) -> i128 {
+    let base = document::base(protocol, place, rate);
+    let span = expected_spans(protocol, rate).0[place];
+    let margin = i128::from(span.high - base);
+    let difference = document::difference(base, duration);
+    assert!(
+        span.low + span.high == 2 * base && (-margin..=margin).contains(&difference),
+        "{} at {}, place {}: {} is {} from {}, the span is {}..{}",
+        protocol.name(),
+        rate,
+        place,
+        duration,
+        difference,
+        base,
+        span.low,
+        span.high
+    );
+    difference
 }
 
 pub fn show_span(spans: &Spans, place: usize) -> String {

@@ -11,15 +11,13 @@ pub enum Call {
     /// The eight spans.
     Spans { protocol: u32, rate: u32 },
     /// The place of a duration.
-    Lookup {
-        protocol: u32,
-        rate: u32,
-        duration: u64,
-    },
+    Lookup(Lookup),
     /// The durations of a frame, in a lent buffer.
     Encode(Encode),
     /// The same of a closed frame.
     ClosedFrame(ClosedFrame),
+    /// The place of a duration, and its difference from that span's base.
+    Measure(Lookup),
     /// A fresh decoder in a slot.
     Open {
         slot: usize,
@@ -87,6 +85,13 @@ pub struct Edge {
     pub duration: u32,
 }
 
+/// A duration, to be found among the spans of a protocol at a rate.
+pub struct Lookup {
+    pub protocol: u32,
+    pub rate: u32,
+    pub duration: u64,
+}
+
 /// The buffer has `room` places, and place i holds 4,000,000,000 + i before the call.
 pub struct Encode {
     pub protocol: u32,
@@ -121,13 +126,10 @@ impl fmt::Display for Call {
     fn fmt(&self, f: &mut fmt::Formatter) -> fmt::Result {
         match self {
             Call::Spans { protocol, rate } => write!(f, "spans {} {}", protocol, rate),
-            Call::Lookup {
-                protocol,
-                rate,
-                duration,
-            } => write!(f, "lookup {} {} {}", protocol, rate, duration),
+            Call::Lookup(call) => write!(f, "lookup {}", call),
             Call::Encode(call) => write!(f, "encode {}", call),
             Call::ClosedFrame(call) => write!(f, "closed {}", call),
+            Call::Measure(call) => write!(f, "measure {}", call),
             Call::Open {
                 slot,
                 protocol,
@@ -175,6 +177,12 @@ impl fmt::Display for Send {
 impl fmt::Display for Edge {
     fn fmt(&self, f: &mut fmt::Formatter) -> fmt::Result {
         write!(f, "{} {}", u8::from(self.rising), self.duration)
+    }
+}
+
+impl fmt::Display for Lookup {
+    fn fmt(&self, f: &mut fmt::Formatter) -> fmt::Result {
+        write!(f, "{} {} {}", self.protocol, self.rate, self.duration)
     }
 }
 
@@ -229,13 +237,10 @@ impl<'a, I: Iterator<Item = &'a [u8]>> Words<I> {
                 protocol: self.number()?,
                 rate: self.number()?,
             },
-            b"lookup" => Call::Lookup {
-                protocol: self.number()?,
-                rate: self.number()?,
-                duration: self.number()?,
-            },
+            b"lookup" => Call::Lookup(self.lookup()?),
             b"encode" => Call::Encode(self.encode()?),
             b"closed" => Call::ClosedFrame(self.closed_frame()?),
+            b"measure" => Call::Measure(self.lookup()?),
             b"counter" => Call::Counter {
                 slot: self.number_up_to(2 * SLOTS - 1)?,
                 is_last: self.flag()?,
@@ -280,6 +285,14 @@ impl<'a, I: Iterator<Item = &'a [u8]>> Words<I> {
 
     fn flag(&mut self) -> Option<bool> {
         Some(self.number_up_to(1)? == 1)
+    }
+
+    fn lookup(&mut self) -> Option<Lookup> {
+        Some(Lookup {
+            protocol: self.number()?,
+            rate: self.number()?,
+            duration: self.number()?,
+        })
     }
 
     fn encode(&mut self) -> Option<Encode> {

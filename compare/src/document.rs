@@ -93,6 +93,11 @@ pub fn base(protocol: Protocol, place: usize, rate: u32) -> u64 {
     LENGTHS[protocol.index()][place] * u64::from(rate) / 1_000_000
 }
 
+/// How far a duration lies from a base, negative when it is short: request 07 of document 02.
+pub fn difference(base: u64, duration: u64) -> i128 {
+    i128::from(duration) - i128::from(base)
+}
+
 fn span(base: u64, percent: u64) -> Span {
     let margin = base * percent / 100;
     Span {

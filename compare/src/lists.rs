@@ -2,11 +2,12 @@
 
 use std::collections::BTreeSet;
 
-use crate::calls::Call;
+use crate::calls::{Call, Lookup};
 use crate::closed_frame_lists;
 use crate::document::{self, Protocol, PROTOCOLS};
 use crate::edge_lists;
 use crate::frame_lists;
+use crate::measure_lists;
 use crate::poll_lists;
 use crate::random::Random;
 
@@ -37,8 +38,9 @@ impl Part {
 }
 
 /// The parts of the large run, in their order.
-pub static PARTS: [Part; 14] = [
+pub static PARTS: [Part; 15] = [
     part("spans", spans_part),
+    part("measure", measure_lists::measure_part),
     part("nec", frame_lists::nec_part),
     part("rc5", frame_lists::rc5_part),
     part("rc6", frame_lists::rc6_part),
@@ -147,24 +149,24 @@ pub fn spans_call(protocol: Protocol, rate: u32) -> Call {
 }
 
 pub fn lookup_call(protocol: Protocol, rate: u32, duration: u64) -> Call {
-    Call::Lookup {
+    Call::Lookup(Lookup {
         protocol: protocol.number(),
         rate,
         duration,
-    }
+    })
 }
 
 /// A lookup of each duration at, one below and one above an end, each once.
 pub fn lookups_at_ends(protocol: Protocol, rate: u32) -> impl Iterator<Item = Call> {
-    let mut durations = BTreeSet::new();
-    for span in document::spans(protocol, rate) {
-        for end in [span.low, span.high] {
-            durations.insert(end.saturating_sub(1));
-            durations.insert(end);
-            durations.insert(end + 1);
-        }
-    }
-    durations
+    let spans = document::spans(protocol, rate);
+    about(spans.iter().flat_map(|span| [span.low, span.high]))
         .into_iter()
         .map(move |duration| lookup_call(protocol, rate, duration))
+}
+
+/// These durations, those one below and those one above, each once.
+pub fn about(durations: impl Iterator<Item = u64>) -> BTreeSet<u64> {
+    durations
+        .flat_map(|duration| [duration.saturating_sub(1), duration, duration + 1])
+        .collect()
 }

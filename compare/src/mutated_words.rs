@@ -20,7 +20,7 @@ const NOT_UNDERSTOOD: &[u8] = b"not understood: ./run help lists what is\n";
 /// How the list of what is understood begins.
 const HELP: &[u8] = b"./run\n";
 
-const UNDERSTOOD: [&str; 15] = [
+const UNDERSTOOD: [&str; 16] = [
     "",
     "help",
     "calls",
@@ -28,6 +28,7 @@ const UNDERSTOOD: [&str; 15] = [
     "spans 38000",
     "spans 38000 100",
     "spans 1000000 1063",
+    "spans 1000000 1989",
     "frame 1 38000 4 8",
     "frame 2 1000000 0 0 3 0",
     "frame 3 9673349 255 1 0 1",

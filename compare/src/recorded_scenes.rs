@@ -2,6 +2,7 @@
 //! that it would show.
 
 use crate::recorded_counters::*;
+use crate::recorded_measures::*;
 use crate::recorded_polls::*;
 use crate::recorded_pulses::*;
 use crate::recorded_runs::*;
@@ -19,7 +20,21 @@ macro_rules! scenes {
 }
 
 scenes! {
-    // The first: the slots are still closed.
+    difference_has_no_sign,
+    difference_has_the_other_sign,
+    base_is_that_of_another_place,
+    difference_of_one_is_lost,
+    nearest_end_is_measured,
+    nearest_base_is_measured,
+    duration_beside_a_span_is_measured,
+    digit_of_a_difference_is_lost,
+    base_is_rounded,
+    base_is_that_of_1_mhz,
+    base_goes_round,
+    padding_is_no_place,
+    measure_goes_round,
+    refused_measure_is_answered,
+    // The first of these: the slots are still closed.
     closed_slot_answers,
     refused_open_empties_the_slot,
     open_keeps_the_old_decoder,

@@ -5,7 +5,7 @@ use std::convert::TryFrom;
 use std::ffi::OsString;
 use std::io::{self, Write};
 
-use crate::answers::{self, expected_place, expected_spans, show_place};
+use crate::answers::{self, expected_difference, expected_place, expected_spans, show_place};
 use crate::calls;
 use crate::document::{self, Protocol, PLACES, PROTOCOLS};
 use crate::frames::{self, KINDS, ROOM};
@@ -126,7 +126,7 @@ fn ask_last(calls: &[String]) -> io::Result<String> {
     Ok(answer.split(" kept ").take(1).collect())
 }
 
-/// The spans at a rate as a table, and the place of a duration where one is given.
+/// The spans at a rate as a table, and where a duration lies in them if one is given.
 fn span_table(out: &mut impl Write, told: &[u32]) -> io::Result<()> {
     let rate = *told.first().unwrap_or(&RATE);
     if let Err(refusal) = document::admit(1, rate) {
@@ -142,18 +142,33 @@ fn span_table(out: &mut impl Write, told: &[u32]) -> io::Result<()> {
             format!("{:>8}{:>8}", span.low, span.high)
         })?;
     }
-    if let Some(&duration) = told.get(1) {
-        writeln!(out, "\nPlace of duration {}", duration)?;
-        row(out, "place", |protocol| {
-            show_place(expected_place(protocol, rate, duration.into()).0, "")
-        })?;
+    match told.get(1) {
+        Some(&duration) => measured_rows(out, rate, duration.into()),
+        None => Ok(()),
     }
-    Ok(())
 }
 
+/// The place of a duration, and its difference from the base of that span.
+fn measured_rows(out: &mut impl Write, rate: u32, duration: u64) -> io::Result<()> {
+    writeln!(
+        out,
+        "\nPlace of duration {}, and its difference from that span's base, negative when it is short",
+        duration
+    )?;
+    let place = |protocol| expected_place(protocol, rate, duration).0;
+    row(out, "place", |protocol| show_place(place(protocol), ""))?;
+    row(out, "difference", |protocol| match place(protocol) {
+        Some(place) => expected_difference(protocol, place, rate, duration).to_string(),
+        None => "-".to_string(),
+    })
+}
+
+/// A longer head takes blanks of the first cell.
 fn row(out: &mut impl Write, head: &str, cell: impl Fn(Protocol) -> String) -> io::Result<()> {
-    let cells = PROTOCOLS.map(|protocol| format!("{:>16}", cell(protocol)));
-    writeln!(out, "{:>5}{}", head, cells.concat())
+    let cells = PROTOCOLS
+        .map(|protocol| format!("{:>16}", cell(protocol)))
+        .concat();
+    writeln!(out, "{:>5}{}", head, &cells[head.len().max(5) - 5..])
 }
 
 /// The frame of a command as a table, and what a fresh decoder of its protocol reports.

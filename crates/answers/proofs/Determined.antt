@@ -17,6 +17,7 @@ use Rattle.answers.proofs.not_open as not-open
 use Rattle.answers.proofs.not_understood as not-understood
 use Rattle.answers.proofs.as_text.put_phrase as put-phrase
 use Rattle.answers.proofs.as_text.put_part as put-part
+use Rattle.answers.proofs.as_text.put_measured as put-measured
 use Rattle.answers.proofs.as_text.put_spans as put-spans
 
 text-fixed : Fixed text.ended (λ M. text.clauses) text.Symbol.routine
@@ -69,6 +70,9 @@ put-phrase-fixed M 𝓤 H 𝓜 𝓖 𝓡 = (put-phrase.Met.met 𝓤 H 𝓜 𝓖 
 
 put-part-fixed : Fixed put-part.ended (λ M. put-part.clauses) put-part.Symbol.routine
 put-part-fixed M 𝓤 H 𝓜 𝓖 𝓡 = (put-part.Met.met 𝓤 H 𝓜 𝓖 𝓡, λ κs a. asks-nothing 𝓤, λ κs a g h r s v w. both (one & one) (one & one) alike-left)
+
+put-measured-fixed : Fixed put-measured.ended (λ M. put-measured.clauses) put-measured.Symbol.routine
+put-measured-fixed M 𝓤 H 𝓜 𝓖 𝓡 = (put-measured.Met.met 𝓤 H 𝓜 𝓖 𝓡, λ κs a. asks-nothing 𝓤, λ κs a g h r s v w. both (one & one) (one & one) alike-left)
 
 put-spans-fixed : Fixed put-spans.ended (λ M. put-spans.clauses) put-spans.Symbol.routine
 put-spans-fixed M 𝓤 H 𝓜 𝓖 𝓡 = (put-spans.Met.met 𝓤 H 𝓜 𝓖 𝓡, λ κs a. asks-nothing 𝓤, λ κs a g h r s v w. both (one & one) (one & one) alike-left)

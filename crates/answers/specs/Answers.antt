@@ -85,7 +85,7 @@ answerPhrase answer.Taken = textOf (word ("o" ∷ "p" ∷ "e" ∷ "n" ∷ "e" �
 answerPhrase (answer.Refused number) = refusedPhrase number
 
 abbrev pub foundPhrase : Found → Phrase
-foundPhrase (found.At place) = withOf (word ("p" ∷ "l" ∷ "a" ∷ "c" ∷ "e" ∷ [])) 0 place
+foundPhrase (found.At measured) = withOf (word ("p" ∷ "l" ∷ "a" ∷ "c" ∷ "e" ∷ [])) 0 (measured .place)
 foundPhrase found.None = textOf (word ("n" ∷ "o" ∷ "n" ∷ "e" ∷ [])) 0
 
 abbrev pub encodedPhrase : Encoded → Phrase
@@ -95,6 +95,10 @@ encodedPhrase (encoded.Short needed) =
     withOf (word ("r" ∷ "e" ∷ "f" ∷ "u" ∷ "s" ∷ "e" ∷ "d" ∷ " " ∷ []))
     (word ("3" ∷ " " ∷ "n" ∷ "e" ∷ "e" ∷ "d" ∷ "s" ∷ []))
     needed
+
+-- after a place: a difference follows
+abbrev pub differencePhrase : Phrase
+differencePhrase = textOf (word (" " ∷ "d" ∷ "i" ∷ "f" ∷ "f" ∷ "e" ∷ "r" ∷ "e" ∷ [])) (word ("n" ∷ "c" ∷ "e" ∷ " " ∷ []))
 
 -- after what encoding answers: the places of the lent buffer that are unwritten
 abbrev pub unwrittenPhrase : ℕ → Phrase

@@ -7,7 +7,10 @@ use lib.Dec.{ltb}
 use lib.ListN.{getD}
 use Rattle.spans.specs.declared.Spans.{Spans}
 use Rattle.answers.specs.declared.Phrase.{Phrase}
-use Rattle.text.specs.Text.{chars, letters, decimal, numbersText}
+use Rattle.spans.specs.declared.Found.{Found}
+use Rattle.spans.specs.declared.Found.the-variants as found
+use Rattle.answers.specs.Answers.{foundPhrase, differencePhrase}
+use Rattle.text.specs.Text.{chars, letters, decimal, signedDecimal, numbersText}
 
 -- an answer: its text, and the numbers after it
 unfoldable pub phraseText : Phrase → List ℕ
@@ -16,6 +19,11 @@ phraseText phrase = letters 8 (phrase .head) ++ letters 8 (phrase .tail) ++ numb
 -- an answer that others follow on the line
 unfoldable pub partText : Phrase → List ℕ
 partText phrase = phraseText phrase ++ chars ("," ∷ " " ∷ [])
+
+-- what a lookup found: the place, and the difference after it
+unfoldable pub measuredText : Found → List ℕ
+measuredText (found.At measured) = phraseText (foundPhrase (found.At measured)) ++ phraseText differencePhrase ++ signedDecimal (measured .difference)
+measuredText found.None = phraseText (foundPhrase found.None)
 
 -- the two ends of a span
 unfoldable pub spanText : ℕ → ℕ → List ℕ

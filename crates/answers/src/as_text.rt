@@ -1,13 +1,17 @@
 // What a call answers, and spans, put into a lent slice: each function takes the place where its text starts, and answers the next one.
 use crate::Phrase;
+use crate::before_difference;
+use crate::of_found;
+use spans::Found;
 use spans::Spans;
 use text::put;
 use text::put_letters;
 use text::put_number;
 use text::put_numbers;
+use text::put_signed;
 ghost use mathlib.Core.Path.{_≡_};
 ghost use Rattle.text.specs.Text.{putsOf};
-ghost use Rattle.answers.specs.AsText.{phraseText, partText, spanText, gapAt, spansText};
+ghost use Rattle.answers.specs.AsText.{phraseText, partText, measuredText, spanText, gapAt, spansText};
 
 // What a call answers: its text, and the numbers after it.
 pub fn put_phrase(text: &mut [u8], at: usize, phrase: Phrase) -> usize
@@ -28,6 +32,21 @@ pub fn put_part(text: &mut [u8], at: usize, phrase: Phrase) -> usize
     let next = put_phrase(text, at, phrase);
     let next = put(text, next, b',');
     put(text, next, b' ')
+}
+
+// What a lookup found: the place, and the difference after it.
+pub fn put_measured(text: &mut [u8], at: usize, found: Found) -> usize
+    ensures next { λ r. ⌜ r ≡ putsOf (now (text .entry)) at (measuredText found) .1 ⌝ }
+    ensures left { λ _. ⌜ now (text .exit) ≡ putsOf (now (text .entry)) at (measuredText found) .0 ⌝ }
+{
+    let next = put_phrase(text, at, of_found(found));
+    match found {
+        Found::At(measured) => {
+            let next = put_phrase(text, next, before_difference());
+            put_signed(text, next, measured.difference)
+        }
+        Found::None => next,
+    }
 }
 
 // The two ends of a span, and two dots between them.

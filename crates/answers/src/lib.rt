@@ -10,7 +10,7 @@ use reports::status_numbers;
 use spans::Answer;
 use spans::Found;
 ghost use mathlib.Core.Path.{_≡_};
-ghost use Rattle.answers.specs.Answers.{textOf, withOf, withTwo, refusedPhrase, faultPhrase, nameOf, statusBy, statusPhrase, reportBy, reportPhrase, answerPhrase, foundPhrase, encodedPhrase, unwrittenPhrase, edgePhrase, boundsPhrase, notOpen, notUnderstood, isTaken};
+ghost use Rattle.answers.specs.Answers.{textOf, withOf, withTwo, refusedPhrase, faultPhrase, nameOf, statusBy, statusPhrase, reportBy, reportPhrase, answerPhrase, foundPhrase, differencePhrase, encodedPhrase, unwrittenPhrase, edgePhrase, boundsPhrase, notOpen, notUnderstood, isTaken};
 
 // The characters are digits of base 256: the first eight, and the rest.
 pub struct Phrase {
@@ -64,6 +64,10 @@ const OPENED: u64 = 0x6F70656E6564;
 const PLACE: u64 = 0x706C616365;
 
 const NONE: u64 = 0x6E6F6E65;
+
+const DIFFERENCE: u64 = 0x2064696666657265;
+
+const DIFFERENCE_REST: u64 = 0x6E636520;
 
 const WROTE: u64 = 0x77726F7465;
 
@@ -204,9 +208,16 @@ pub fn of_found(found: Found) -> Phrase
     ensures { λ r. ⌜ r ≡ foundPhrase found ⌝ }
 {
     match found {
-        Found::At(place) => with(PLACE, 0, place as u64),
+        Found::At(measured) => with(PLACE, 0, measured.place as u64),
         Found::None => text(NONE, 0),
     }
+}
+
+// After a place: a difference follows.
+fn before_difference() -> Phrase
+    ensures { λ r. ⌜ r ≡ differencePhrase ⌝ }
+{
+    text(DIFFERENCE, DIFFERENCE_REST)
 }
 
 pub fn of_encoded(encoded: Encoded) -> Phrase

@@ -68,6 +68,7 @@ calls =
     ∷ call ("b" ∷ "o" ∷ "u" ∷ "n" ∷ "d" ∷ "s" ∷ []) (word32 ∷ [])
     ∷ call ("s" ∷ "e" ∷ "n" ∷ "d" ∷ []) (slot ∷ byte ∷ byte ∷ byte ∷ flag ∷ word32 ∷ word32 ∷ [])
     ∷ call ("c" ∷ "l" ∷ "o" ∷ "s" ∷ "e" ∷ "d" ∷ []) (word32 ∷ word32 ∷ byte ∷ byte ∷ room ∷ [])
+    ∷ call ("m" ∷ "e" ∷ "a" ∷ "s" ∷ "u" ∷ "r" ∷ "e" ∷ []) (word32 ∷ word32 ∷ word64 ∷ [])
     ∷ []
 
 abbrev pub isIn : Range → ℕ → Bool

@@ -21,8 +21,8 @@ lookupPhrase protocol rate duration =
 abbrev pub boundsOf : ℕ → Phrase
 boundsOf protocol = cond (encodeTaken protocol) (boundsPhrase (leastSilence protocol) (mostDeviation protocol)) (refusedPhrase badProtocol)
 
--- of a call that asks no slot. What spans, encode and closed answer is more than one phrase: here they have an empty one
+-- of a call that asks no slot. What spans, encode, closed and measure answer is more than one phrase: here they have an empty one
 unfoldable pub phraseOf : ℕ → List ℕ → Phrase
 phraseOf call n =
     cond (eqb call 1) (lookupPhrase (getD n 0 0 % 2 ^ 32) (getD n 1 0 % 2 ^ 32) (getD n 2 0))
-    (cond (eqb call 13) (boundsOf (getD n 0 0 % 2 ^ 32)) (cond (ltb call 3 || eqb call 15) (textOf 0 0) notUnderstood))
+    (cond (eqb call 13) (boundsOf (getD n 0 0 % 2 ^ 32)) (cond (ltb call 3 || eqb call 15 || eqb call 16) (textOf 0 0) notUnderstood))

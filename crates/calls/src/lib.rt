@@ -44,8 +44,10 @@ pub const SEND: usize = 14;
 
 pub const CLOSED: usize = 15;
 
+pub const MEASURE: usize = 16;
+
 // No call.
-pub const NONE: usize = 16;
+pub const NONE: usize = 17;
 
 // The names, their letters as digits of base 256.
 const SPANS_NAME: u64 = 0x7370616E73;
@@ -80,7 +82,9 @@ const SEND_NAME: u64 = 0x73656E64;
 
 const CLOSED_NAME: u64 = 0x636C6F736564;
 
-const NAMES: [u64; 16] = [
+const MEASURE_NAME: u64 = 0x6D656173757265;
+
+const NAMES: [u64; 17] = [
     SPANS_NAME,
     LOOKUP_NAME,
     ENCODE_NAME,
@@ -97,17 +101,18 @@ const NAMES: [u64; 16] = [
     BOUNDS_NAME,
     SEND_NAME,
     CLOSED_NAME,
+    MEASURE_NAME,
 ];
 
 // How many numbers follow the name.
-const COUNTS: [usize; 16] = [2, 3, 7, 3, 3, 3, 3, 1, 1, 3, 3, 2, 3, 1, 7, 5];
+const COUNTS: [usize; 17] = [2, 3, 7, 3, 3, 3, 3, 1, 1, 3, 3, 2, 3, 1, 7, 5, 3];
 
 const LAST: u64 = 0xFFFFFFFF;
 
 const ANY: u64 = 0xFFFFFFFFFFFFFFFF;
 
 // The largest that each number may be; whatever stands after the numbers is not asked.
-const MOST: [[u64; 7]; 16] = [
+const MOST: [[u64; 7]; 17] = [
     [LAST, LAST, ANY, ANY, ANY, ANY, ANY],
     [LAST, LAST, ANY, ANY, ANY, ANY, ANY],
     [LAST, LAST, 255, 255, 255, 1, 100],
@@ -124,24 +129,25 @@ const MOST: [[u64; 7]; 16] = [
     [LAST, ANY, ANY, ANY, ANY, ANY, ANY],
     [7, 255, 255, 255, 1, LAST, LAST],
     [LAST, LAST, 255, 255, 100, ANY, ANY],
+    [LAST, LAST, ANY, ANY, ANY, ANY, ANY],
 ];
 
 fn name_at(call: usize) -> u64
-    requires { ⌜ call < 16 ⌝ }
+    requires { ⌜ call < 17 ⌝ }
     ensures { λ r. ⌜ r ≡ callAt call .name ⌝ }
 {
     NAMES[call]
 }
 
 fn count_at(call: usize) -> usize
-    requires { ⌜ call < 16 ⌝ }
+    requires { ⌜ call < 17 ⌝ }
     ensures { λ r. ⌜ (r ≡ length (callAt call .numbers)) × (r ≤ 7) ⌝ }
 {
     COUNTS[call]
 }
 
 fn most_at(call: usize, place: usize) -> u64
-    requires { ⌜ (call < 16) × (place < 7) ⌝ }
+    requires { ⌜ (call < 17) × (place < 7) ⌝ }
     ensures { λ r. ⌜ r ≡ rangeAt call place .1 ⌝ }
 {
     MOST[call][place]
@@ -149,14 +155,14 @@ fn most_at(call: usize, place: usize) -> u64
 
 // A poll is of one level at least; every other number may be 0.
 fn least_at(call: usize, place: usize) -> u64
-    requires { ⌜ (call < 16) × (place < 7) ⌝ }
+    requires { ⌜ (call < 17) × (place < 7) ⌝ }
     ensures { λ r. ⌜ r ≡ rangeAt call place .0 ⌝ }
 {
     if (call == POLL) & (place == 2) { 1 } else { 0 }
 }
 
 fn is_in(call: usize, place: usize, x: u64) -> bool
-    requires { ⌜ (call < 16) × (place < 7) ⌝ }
+    requires { ⌜ (call < 17) × (place < 7) ⌝ }
     ensures { λ r. ⌜ r ≡ isIn (rangeAt call place) x ⌝ }
 {
     (least_at(call, place) <= x) & (x <= most_at(call, place))
@@ -164,7 +170,7 @@ fn is_in(call: usize, place: usize, x: u64) -> bool
 
 // The numbers of a call are in their ranges.
 fn are_in(call: usize, n: &[u64; 8]) -> bool
-    requires { ⌜ call < 16 ⌝ }
+    requires { ⌜ call < 17 ⌝ }
     ensures { λ r. ⌜ r ≡ areFrom 0 (callAt call .numbers) (now (n .entry)) ⌝ }
 {
     let count = count_at(call);
@@ -180,14 +186,14 @@ fn are_in(call: usize, n: &[u64; 8]) -> bool
 
 // The line is a name and so many numbers.
 fn is_named(line: Line, call: usize) -> bool
-    requires { ⌜ call < 16 ⌝ }
+    requires { ⌜ call < 17 ⌝ }
     ensures { λ r. ⌜ r ≡ isNamed line (callAt call) ⌝ }
 {
     line.whole & (line.name == name_at(call)) & (line.count == count_at(call))
 }
 
 fn is_call(line: Line, n: &[u64; 8], call: usize) -> bool
-    requires { ⌜ call < 16 ⌝ }
+    requires { ⌜ call < 17 ⌝ }
     ensures { λ r. ⌜ r ≡ isCall line (now (n .entry)) (callAt call) ⌝ }
 {
     is_named(line, call) && are_in(call, n)
@@ -198,7 +204,7 @@ pub fn call_of(line: Line, n: &[u64; 8]) -> usize
     ensures { λ r. ⌜ r ≡ callOf line (now (n .entry)) ⌝ }
 {
     let mut call: usize = 0;
-    while call < 16 {
+    while call < 17 {
         if is_call(line, n, call) {
             return call;
         }

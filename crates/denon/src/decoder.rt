@@ -7,7 +7,7 @@ use spans::Answer;
 use spans::Spans;
 ghost use mathlib.Core.Path.{_≡_};
 ghost use Rattle.refusals.specs.Refusals as refusal;
-ghost use Rattle.spans.specs.Spans.{ends, spansOf};
+ghost use Rattle.spans.specs.Spans.{columns, spansOf};
 ghost use Rattle.reports.specs.Edges.{edge};
 ghost use Rattle.reports.specs.Machine.{refused, eventAfter, answered, event, total};
 ghost use Rattle.denon.specs.Decoder.{pastEnd, memoryOf, nextOf, withSaved, machine, eventIn, totalIn, decoderOf, madeOf, eventOf, totalOf};
@@ -177,17 +177,18 @@ pub fn fresh() -> DenonMemory
 
 // One call by place that Denon names: each place of the lookup goes on to its own arm. The sum is exact: no span holds one above 32 bits.
 pub fn event_in<'a>(
+    base: &'a [u32; 8],
     low: &'a [u32; 8],
     high: &'a [u32; 8],
     m: DenonMemory,
     rising: bool,
     duration: u32,
 ) -> DenonEventIn
-    ensures { λ r. ⌜ r ≡ eventIn (event machine (ends (now (low .entry)) (now (high .entry))) m (edge rising duration)) ⌝ }
+    ensures { λ r. ⌜ r ≡ eventIn (event machine (columns (now (base .entry)) (now (low .entry)) (now (high .entry))) m (edge rising duration)) ⌝ }
 {
     if rising {
         let total = m.saved as u64 + duration as u64;
-        match spans::place_of(spans::lookup_in(low, high, total)) {
+        match spans::place_of(spans::lookup_in(base, low, high, total)) {
             SYNC => next_of(m, SYNC),
             ZERO => next_of(m, ZERO),
             ONE => next_of(m, ONE),
@@ -231,15 +232,16 @@ fn again(m: DenonMemory) -> DenonMemory
 
 // The rule of `reports` over event_in.
 pub fn total_in<'a>(
+    base: &'a [u32; 8],
     low: &'a [u32; 8],
     high: &'a [u32; 8],
     m: DenonMemory,
     rising: bool,
     duration: u32,
 ) -> DenonTotalIn
-    ensures { λ r. ⌜ r ≡ totalIn (total machine (ends (now (low .entry)) (now (high .entry))) m (edge rising duration)) ⌝ }
+    ensures { λ r. ⌜ r ≡ totalIn (total machine (columns (now (base .entry)) (now (low .entry)) (now (high .entry))) m (edge rising duration)) ⌝ }
 {
-    let event = event_in(low, high, m, rising, duration);
+    let event = event_in(base, low, high, m, rising, duration);
     let status = event.status;
     let after = event.memory;
     let report = reports::report_of(status, command_in(after));
@@ -270,7 +272,14 @@ impl DenonDecoder {
         ensures { λ r. ⌜ r ≡ eventOf (self .spans) (event machine (self .spans) (self .memory) (edge rising duration)) ⌝ }
     {
         let spans = self.spans;
-        let event = event_in(&spans.low, &spans.high, self.memory, rising, duration);
+        let event = event_in(
+            &spans.base,
+            &spans.low,
+            &spans.high,
+            self.memory,
+            rising,
+            duration,
+        );
         let status = event.status;
         let memory = event.memory;
         let spans = spans::again(spans);
@@ -297,7 +306,14 @@ impl DenonDecoder {
         ensures { λ r. ⌜ r ≡ totalOf (self .spans) (total machine (self .spans) (self .memory) (edge rising duration)) ⌝ }
     {
         let spans = self.spans;
-        let total = total_in(&spans.low, &spans.high, self.memory, rising, duration);
+        let total = total_in(
+            &spans.base,
+            &spans.low,
+            &spans.high,
+            self.memory,
+            rising,
+            duration,
+        );
         let report = total.report;
         let memory = total.memory;
         let spans = spans::again(spans);

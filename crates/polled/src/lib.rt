@@ -6,7 +6,7 @@ use protocols::decoder::total_in;
 use reports::Report;
 use spans::Answer;
 ghost use mathlib.Core.Path.{_≡_};
-ghost use Rattle.spans.specs.Spans.{ends};
+ghost use Rattle.spans.specs.Spans.{columns};
 ghost use Rattle.polled.specs.Polled.{polledAt, pollOf};
 ghost use Rattle.polled.specs.PolledSteps.{receiverOf, steppedTo, stepOf};
 
@@ -64,6 +64,7 @@ impl Polled {
         let spans = decoder.spans;
         let memory = decoder.memory;
         let after = step(
+            &spans.base,
             &spans.low,
             &spans.high,
             memory,
@@ -102,6 +103,7 @@ fn stepped_to(report: Report, clock: u32, last_edge: u32, level: bool, memory: M
 
 // One poll, by value, from the parts of the record: all that document 01 says of it. `was` is the last level. Refusal 4 is tested before the clock moves, at an unchanged level too.
 fn step<'a>(
+    base: &'a [u32; 8],
     low: &'a [u32; 8],
     high: &'a [u32; 8],
     memory: Memory,
@@ -110,7 +112,7 @@ fn step<'a>(
     was: bool,
     level: bool,
 ) -> Stepped
-    ensures { λ r. ⌜ r ≡ stepOf (receiverOf (ends (now (low .entry)) (now (high .entry))) memory clock «last_edge» was) level ⌝ }
+    ensures { λ r. ⌜ r ≡ stepOf (receiverOf (columns (now (base .entry)) (now (low .entry)) (now (high .entry))) memory clock «last_edge» was) level ⌝ }
 {
     if past_end(memory) {
         return stepped_to(
@@ -126,13 +128,13 @@ fn step<'a>(
         return stepped_to(Report::Nothing, ticked, last_edge, was, memory);
     }
     let run = std::num::wrapping_sub_u32(ticked, last_edge);
-    let total = total_in(low, high, memory, level, run);
+    let total = total_in(base, low, high, memory, level, run);
     let report = total.report;
     let after = total.memory;
     stepped_to(report, ticked, ticked, level, after)
 }
 
-// One poll of the record that the caller keeps: the step, which is lent the ends of the spans, and what it gives is stored. Where the level is unchanged so is the memory, and it is not stored.
+// One poll of the record that the caller keeps: the step, which is lent the spans, and what it gives is stored. Where the level is unchanged so is the memory, and it is not stored.
 pub fn poll(receiver: &mut Polled, level: bool) -> Report
     ensures { λ r. ⌜ (r ≡ pollOf (now (receiver .entry)) level .report) × (now (receiver .exit) ≡ pollOf (now (receiver .entry)) level .receiver) ⌝ }
 {
@@ -141,6 +143,7 @@ pub fn poll(receiver: &mut Polled, level: bool) -> Report
     let last_edge = receiver.last_edge;
     let was = receiver.level;
     let after = step(
+        &receiver.decoder.spans.base,
         &receiver.decoder.spans.low,
         &receiver.decoder.spans.high,
         memory,

@@ -6,14 +6,16 @@ use mathlib.Core.List.{List}
 use Prim.Native.Nat.{ℕ, zero, suc, _+_}
 use native.Mathlib.Omega.{arith}
 use lib.Dec.{eqb, leb}
+use lib.IntN.{ℤ}
 use lib.ListN.{length}
 use borrow.Author.Tests.{ne-eqb}
 use Rattle.refusals.specs.Refusals.{protocolTaken, rateTaken}
 use Rattle.spans.specs.Spans.{spansOf, refusalNumber}
-use Rattle.spans.specs.Lookup.{holds, lowestFrom, lookupOf, none, placeOf}
+use Rattle.spans.specs.Lookup.{holds, lowestFrom, lookupOf, none, placeOf, differenceOr}
 use Rattle.spans.specs.declared.Spans.{Spans}
 use Rattle.spans.specs.declared.Answer.{Answer}
 use Rattle.spans.specs.declared.Answer.the-variants as answer
+use Rattle.spans.specs.declared.Measured.{Measured}
 use Rattle.spans.specs.declared.Found.{Found}
 use Rattle.spans.specs.declared.Found.the-variants.{At, None}
 use Rattle.spans.specs.declared.SpansAnswer.{SpansAnswer}
@@ -52,20 +54,20 @@ pub answer-back : (protocol rate : ℕ) → answerFrom (refusalNumber (spansOf p
 unfolding spansOf
 answer-back protocol rate = either AnswerBack (protocolTaken protocol) (either AnswerBack (rateTaken rate) refl refl) refl
 
--- ---- the lookup: 8 where no span holds the duration
+-- ---- the lookup: 8 where no span holds the duration, and then no difference
 
-abbrev pub foundFrom : ℕ → Found
-foundFrom place = cond (eqb place none) None (At place)
+abbrev pub foundFrom : ℕ → ℤ → Found
+foundFrom place difference = cond (eqb place none) None (At (record { place = place; difference = difference }))
 
-abbrev FoundBack : Found → Type 0
-FoundBack f = foundFrom (placeOf f) ≡ f
+abbrev FoundBack : ℤ → Found → Type 0
+FoundBack held f = foundFrom (placeOf f) (differenceOr held f) ≡ f
 
-module _ (spans : Spans) (duration : ℕ) where
-  lowest-back : (left place : ℕ) → place + left ≡ 8 → FoundBack (lowestFrom spans duration left place)
+module _ (spans : Spans) (duration : ℕ) (held : ℤ) where
+  lowest-back : (left place : ℕ) → place + left ≡ 8 → FoundBack held (lowestFrom spans duration left place)
   unfolding lowestFrom
   lowest-back zero place e = refl
   lowest-back (suc left) place e =
-      either FoundBack (holds spans duration place) (rw (ne-eqb place 8 (λ same. omega arith))) (lowest-back left (place + 1) (omega arith))
+      either (FoundBack held) (holds spans duration place) (rw (ne-eqb place 8 (λ same. omega arith))) (lowest-back left (place + 1) (omega arith))
 
-  pub found-back : foundFrom (placeOf (lookupOf spans duration)) ≡ lookupOf spans duration
+  pub found-back : foundFrom (placeOf (lookupOf spans duration)) (differenceOr held (lookupOf spans duration)) ≡ lookupOf spans duration
   found-back = lowest-back 8 0 refl

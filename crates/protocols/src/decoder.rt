@@ -29,7 +29,7 @@ use sbp::decoder::total_in as sbp_total;
 use spans::Answer;
 use spans::Spans;
 ghost use mathlib.Core.Path.{_≡_};
-ghost use Rattle.spans.specs.Spans.{ends};
+ghost use Rattle.spans.specs.Spans.{columns};
 ghost use Rattle.reports.specs.Edges.{edge};
 ghost use Rattle.reports.specs.Machine.{event, total};
 ghost use Rattle.protocols.specs.Decoder.{pastEnd, freshOf, machine, eventIn, totalIn, decoderOf, madeBy, edgeEvent, edgeTotal};
@@ -101,37 +101,38 @@ fn fresh_of(protocol: u32) -> Memory
 }
 
 pub fn event_in<'a>(
+    base: &'a [u32; 8],
     low: &'a [u32; 8],
     high: &'a [u32; 8],
     memory: Memory,
     rising: bool,
     duration: u32,
 ) -> EventIn
-    ensures { λ r. ⌜ r ≡ eventIn (event machine (ends (now (low .entry)) (now (high .entry))) memory (edge rising duration)) ⌝ }
+    ensures { λ r. ⌜ r ≡ eventIn (event machine (columns (now (base .entry)) (now (low .entry)) (now (high .entry))) memory (edge rising duration)) ⌝ }
 {
     match memory {
         Memory::Nec(m) => {
-            let NecEventIn { status, memory } = nec_event(low, high, m, rising, duration);
+            let NecEventIn { status, memory } = nec_event(base, low, high, m, rising, duration);
             let memory = Memory::Nec(memory);
             EventIn { status, memory }
         }
         Memory::Rc5(m) => {
-            let Rc5EventIn { status, memory } = rc5_event(low, high, m, rising, duration);
+            let Rc5EventIn { status, memory } = rc5_event(base, low, high, m, rising, duration);
             let memory = Memory::Rc5(memory);
             EventIn { status, memory }
         }
         Memory::Rc6(m) => {
-            let Rc6EventIn { status, memory } = rc6_event(low, high, m, rising, duration);
+            let Rc6EventIn { status, memory } = rc6_event(base, low, high, m, rising, duration);
             let memory = Memory::Rc6(memory);
             EventIn { status, memory }
         }
         Memory::Sbp(m) => {
-            let SbpEventIn { status, memory } = sbp_event(low, high, m, rising, duration);
+            let SbpEventIn { status, memory } = sbp_event(base, low, high, m, rising, duration);
             let memory = Memory::Sbp(memory);
             EventIn { status, memory }
         }
         Memory::Denon(m) => {
-            let DenonEventIn { status, memory } = denon_event(low, high, m, rising, duration);
+            let DenonEventIn { status, memory } = denon_event(base, low, high, m, rising, duration);
             let memory = Memory::Denon(memory);
             EventIn { status, memory }
         }
@@ -163,37 +164,38 @@ pub fn reset_in(memory: Memory) -> Memory
 }
 
 pub fn total_in<'a>(
+    base: &'a [u32; 8],
     low: &'a [u32; 8],
     high: &'a [u32; 8],
     memory: Memory,
     rising: bool,
     duration: u32,
 ) -> TotalIn
-    ensures { λ r. ⌜ r ≡ totalIn (total machine (ends (now (low .entry)) (now (high .entry))) memory (edge rising duration)) ⌝ }
+    ensures { λ r. ⌜ r ≡ totalIn (total machine (columns (now (base .entry)) (now (low .entry)) (now (high .entry))) memory (edge rising duration)) ⌝ }
 {
     match memory {
         Memory::Nec(m) => {
-            let NecTotalIn { report, memory } = nec_total(low, high, m, rising, duration);
+            let NecTotalIn { report, memory } = nec_total(base, low, high, m, rising, duration);
             let memory = Memory::Nec(memory);
             TotalIn { report, memory }
         }
         Memory::Rc5(m) => {
-            let Rc5TotalIn { report, memory } = rc5_total(low, high, m, rising, duration);
+            let Rc5TotalIn { report, memory } = rc5_total(base, low, high, m, rising, duration);
             let memory = Memory::Rc5(memory);
             TotalIn { report, memory }
         }
         Memory::Rc6(m) => {
-            let Rc6TotalIn { report, memory } = rc6_total(low, high, m, rising, duration);
+            let Rc6TotalIn { report, memory } = rc6_total(base, low, high, m, rising, duration);
             let memory = Memory::Rc6(memory);
             TotalIn { report, memory }
         }
         Memory::Sbp(m) => {
-            let SbpTotalIn { report, memory } = sbp_total(low, high, m, rising, duration);
+            let SbpTotalIn { report, memory } = sbp_total(base, low, high, m, rising, duration);
             let memory = Memory::Sbp(memory);
             TotalIn { report, memory }
         }
         Memory::Denon(m) => {
-            let DenonTotalIn { report, memory } = denon_total(low, high, m, rising, duration);
+            let DenonTotalIn { report, memory } = denon_total(base, low, high, m, rising, duration);
             let memory = Memory::Denon(memory);
             TotalIn { report, memory }
         }
@@ -221,7 +223,14 @@ impl Decoder {
     {
         let spans = self.spans;
         let memory = self.memory;
-        let event = event_in(&spans.low, &spans.high, memory, rising, duration);
+        let event = event_in(
+            &spans.base,
+            &spans.low,
+            &spans.high,
+            memory,
+            rising,
+            duration,
+        );
         let status = event.status;
         let after = event.memory;
         Event {
@@ -258,7 +267,14 @@ impl Decoder {
     {
         let spans = self.spans;
         let memory = self.memory;
-        let total = total_in(&spans.low, &spans.high, memory, rising, duration);
+        let total = total_in(
+            &spans.base,
+            &spans.low,
+            &spans.high,
+            memory,
+            rising,
+            duration,
+        );
         let report = total.report;
         let after = total.memory;
         Total {

@@ -9,7 +9,7 @@ use spans::Spans;
 ghost use mathlib.Core.Path.{_≡_};
 ghost use Prim.Native.Nat.{_≤_};
 ghost use Rattle.refusals.specs.Refusals as refusal;
-ghost use Rattle.spans.specs.Spans.{spansOf, ends};
+ghost use Rattle.spans.specs.Spans.{columns, spansOf};
 ghost use Rattle.reports.specs.Edges.{edge};
 ghost use Rattle.reports.specs.Machine.{refused, eventAfter, answered, event, total};
 ghost use Rattle.rc5.specs.Decoder.{pastEnd, resetIn, memoryOf, counted, fromIdle, withBit, readFrom, machine, eventIn, totalIn, decoderOf, eventOf, totalOf, madeOf};
@@ -201,15 +201,16 @@ pub fn fresh() -> Rc5Memory
 
 // Ticks are place + 1. A call for each place: the compiler then goes on from the place that it finds.
 pub fn event_in<'a>(
+    base: &'a [u32; 8],
     low: &'a [u32; 8],
     high: &'a [u32; 8],
     m: Rc5Memory,
     rising: bool,
     duration: u32,
 ) -> Rc5EventIn
-    ensures { λ r. ⌜ r ≡ eventIn (event machine (ends (now (low .entry)) (now (high .entry))) m (edge rising duration)) ⌝ }
+    ensures { λ r. ⌜ r ≡ eventIn (event machine (columns (now (base .entry)) (now (low .entry)) (now (high .entry))) m (edge rising duration)) ⌝ }
 {
-    match spans::place_of(spans::lookup_in(low, high, duration as u64)) {
+    match spans::place_of(spans::lookup_in(base, low, high, duration as u64)) {
         0 => next_of(m, 1, rising),
         1 => next_of(m, 2, rising),
         2 => next_of(m, 3, rising),
@@ -238,15 +239,16 @@ pub fn reset_in(m: Rc5Memory) -> Rc5Memory
 
 // The rule of `reports` over event_in.
 pub fn total_in<'a>(
+    base: &'a [u32; 8],
     low: &'a [u32; 8],
     high: &'a [u32; 8],
     m: Rc5Memory,
     rising: bool,
     duration: u32,
 ) -> Rc5TotalIn
-    ensures { λ r. ⌜ r ≡ totalIn (total machine (ends (now (low .entry)) (now (high .entry))) m (edge rising duration)) ⌝ }
+    ensures { λ r. ⌜ r ≡ totalIn (total machine (columns (now (base .entry)) (now (low .entry)) (now (high .entry))) m (edge rising duration)) ⌝ }
 {
-    let event = event_in(low, high, m, rising, duration);
+    let event = event_in(base, low, high, m, rising, duration);
     let status = event.status;
     let memory = event.memory;
     let report = reports::report_of(status, command_in(memory));
@@ -266,6 +268,7 @@ impl Rc5Decoder {
         let made = spans::spans_of(2, rate);
         let answer = made.answer;
         let spans = made.spans;
+        let spans = spans::again(spans); // else padding that is 0 is not known to be 0 where the decoder is made
         let memory = fresh();
         let decoder = Rc5Decoder { spans, memory };
         Rc5Made { answer, decoder }
@@ -277,9 +280,17 @@ impl Rc5Decoder {
     {
         let spans = self.spans;
         let memory = self.memory;
-        let event = event_in(&spans.low, &spans.high, memory, rising, duration);
+        let event = event_in(
+            &spans.base,
+            &spans.low,
+            &spans.high,
+            memory,
+            rising,
+            duration,
+        );
         let status = event.status;
         let memory = event.memory;
+        let spans = spans::again(spans);
         let decoder = Rc5Decoder { spans, memory };
         Rc5Event { status, decoder }
     }
@@ -306,9 +317,17 @@ impl Rc5Decoder {
     {
         let spans = self.spans;
         let memory = self.memory;
-        let total = total_in(&spans.low, &spans.high, memory, rising, duration);
+        let total = total_in(
+            &spans.base,
+            &spans.low,
+            &spans.high,
+            memory,
+            rising,
+            duration,
+        );
         let report = total.report;
         let memory = total.memory;
+        let spans = spans::again(spans);
         let decoder = Rc5Decoder { spans, memory };
         Rc5Total { report, decoder }
     }

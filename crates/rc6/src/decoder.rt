@@ -9,7 +9,7 @@ use spans::Spans;
 ghost use mathlib.Core.Path.{_≡_};
 ghost use Prim.Native.Nat.{_≤_};
 ghost use Rattle.refusals.specs.Refusals as refusal;
-ghost use Rattle.spans.specs.Spans.{ends, spansOf};
+ghost use Rattle.spans.specs.Spans.{columns, spansOf};
 ghost use Rattle.reports.specs.Edges.{edge};
 ghost use Rattle.reports.specs.declared.Status.the-variants as status;
 ghost use Rattle.reports.specs.Machine.{refused, eventAfter, answered, event, total};
@@ -419,15 +419,16 @@ pub fn fresh() -> Rc6Memory
 
 // Ticks are place + 1. A call for each place: the compiler then goes on from the place that it finds.
 pub fn event_in<'a>(
+    base: &'a [u32; 8],
     low: &'a [u32; 8],
     high: &'a [u32; 8],
     m: Rc6Memory,
     rising: bool,
     duration: u32,
 ) -> Rc6EventIn
-    ensures { λ r. ⌜ r ≡ eventIn (event machine (ends (now (low .entry)) (now (high .entry))) m (edge rising duration)) ⌝ }
+    ensures { λ r. ⌜ r ≡ eventIn (event machine (columns (now (base .entry)) (now (low .entry)) (now (high .entry))) m (edge rising duration)) ⌝ }
 {
-    match spans::place_of(spans::lookup_in(low, high, duration as u64)) {
+    match spans::place_of(spans::lookup_in(base, low, high, duration as u64)) {
         0 => next_of(m, 1, rising),
         1 => next_of(m, 2, rising),
         2 => next_of(m, 3, rising),
@@ -449,15 +450,16 @@ pub fn command_in(m: Rc6Memory) -> Report
 
 // The rule of `reports` over event_in.
 pub fn total_in<'a>(
+    base: &'a [u32; 8],
     low: &'a [u32; 8],
     high: &'a [u32; 8],
     m: Rc6Memory,
     rising: bool,
     duration: u32,
 ) -> Rc6TotalIn
-    ensures { λ r. ⌜ r ≡ totalIn (total machine (ends (now (low .entry)) (now (high .entry))) m (edge rising duration)) ⌝ }
+    ensures { λ r. ⌜ r ≡ totalIn (total machine (columns (now (base .entry)) (now (low .entry)) (now (high .entry))) m (edge rising duration)) ⌝ }
 {
-    let event = event_in(low, high, m, rising, duration);
+    let event = event_in(base, low, high, m, rising, duration);
     let status = event.status;
     let after = event.memory;
     let report = reports::report_of(status, command_in(after));
@@ -489,9 +491,17 @@ impl Rc6Decoder {
     {
         let spans = self.spans;
         let memory = self.memory;
-        let event = event_in(&spans.low, &spans.high, memory, rising, duration);
+        let event = event_in(
+            &spans.base,
+            &spans.low,
+            &spans.high,
+            memory,
+            rising,
+            duration,
+        );
         let status = event.status;
         let memory = event.memory;
+        let spans = spans::again(spans);
         let decoder = Rc6Decoder { spans, memory };
         Rc6Event { status, decoder }
     }
@@ -516,9 +526,17 @@ impl Rc6Decoder {
     {
         let spans = self.spans;
         let memory = self.memory;
-        let total = total_in(&spans.low, &spans.high, memory, rising, duration);
+        let total = total_in(
+            &spans.base,
+            &spans.low,
+            &spans.high,
+            memory,
+            rising,
+            duration,
+        );
         let report = total.report;
         let memory = total.memory;
+        let spans = spans::again(spans);
         let decoder = Rc6Decoder { spans, memory };
         Rc6Total { report, decoder }
     }

@@ -47,8 +47,8 @@ fn flushed(text: &[u8], at: usize, room: usize) -> usize {
 }
 
 fn put_call_answer(text: &mut [u8], at: usize, call: usize, n: &[u64; 8], parts: Parts) -> usize {
-    if call == calls::SPANS {
-        return put_spans_call(text, at, n[0], n[1]);
+    if (call == calls::SPANS) | (call == calls::MEASURE) {
+        return put_spans_call(text, at, call, n);
     }
     if call == calls::ENCODE {
         return put_encode_call(text, at, n);

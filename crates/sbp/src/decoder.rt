@@ -9,7 +9,7 @@ use spans::Spans;
 ghost use mathlib.Core.Path.{_≡_};
 ghost use Rattle.sbp.specs.declared.decoder.SbpState.the-variants as state;
 ghost use Rattle.refusals.specs.Refusals as refusal;
-ghost use Rattle.spans.specs.Spans.{ends, spansOf};
+ghost use Rattle.spans.specs.Spans.{columns, spansOf};
 ghost use Rattle.reports.specs.Edges.{edge};
 ghost use Rattle.reports.specs.Machine.{refused, eventAfter, answered, event, total};
 ghost use Rattle.sbp.specs.Decoder.{pastEnd, memoryOf, fromAddress, fromCommand, nextOf, withSaved, machine, eventIn, totalIn, decoderOf, eventOf, totalOf, madeOf};
@@ -279,17 +279,18 @@ pub fn fresh() -> SbpMemory
 
 // One call by place that SBP names: each place of the lookup goes on to its own arm. The sum is exact: no span holds one above 32 bits.
 pub fn event_in<'a>(
+    base: &'a [u32; 8],
     low: &'a [u32; 8],
     high: &'a [u32; 8],
     m: SbpMemory,
     rising: bool,
     duration: u32,
 ) -> SbpEventIn
-    ensures { λ r. ⌜ r ≡ eventIn (event machine (ends (now (low .entry)) (now (high .entry))) m (edge rising duration)) ⌝ }
+    ensures { λ r. ⌜ r ≡ eventIn (event machine (columns (now (base .entry)) (now (low .entry)) (now (high .entry))) m (edge rising duration)) ⌝ }
 {
     if rising {
         let total = m.saved as u64 + duration as u64;
-        match spans::place_of(spans::lookup_in(low, high, total)) {
+        match spans::place_of(spans::lookup_in(base, low, high, total)) {
             SYNC => next_of(m, SYNC),
             PAUSE => next_of(m, PAUSE),
             ZERO => next_of(m, ZERO),
@@ -335,15 +336,16 @@ fn again(m: SbpMemory) -> SbpMemory
 
 // The rule of `reports` over event_in.
 pub fn total_in<'a>(
+    base: &'a [u32; 8],
     low: &'a [u32; 8],
     high: &'a [u32; 8],
     m: SbpMemory,
     rising: bool,
     duration: u32,
 ) -> SbpTotalIn
-    ensures { λ r. ⌜ r ≡ totalIn (total machine (ends (now (low .entry)) (now (high .entry))) m (edge rising duration)) ⌝ }
+    ensures { λ r. ⌜ r ≡ totalIn (total machine (columns (now (base .entry)) (now (low .entry)) (now (high .entry))) m (edge rising duration)) ⌝ }
 {
-    let event = event_in(low, high, m, rising, duration);
+    let event = event_in(base, low, high, m, rising, duration);
     let status = event.status;
     let after = event.memory;
     let report = reports::report_of(status, command_in(after));
@@ -375,7 +377,14 @@ impl SbpDecoder {
     {
         let spans = self.spans;
         let memory = self.memory;
-        let event = event_in(&spans.low, &spans.high, memory, rising, duration);
+        let event = event_in(
+            &spans.base,
+            &spans.low,
+            &spans.high,
+            memory,
+            rising,
+            duration,
+        );
         let status = event.status;
         let memory = event.memory;
         let spans = spans::again(spans);
@@ -403,7 +412,14 @@ impl SbpDecoder {
     {
         let spans = self.spans;
         let memory = self.memory;
-        let total = total_in(&spans.low, &spans.high, memory, rising, duration);
+        let total = total_in(
+            &spans.base,
+            &spans.low,
+            &spans.high,
+            memory,
+            rising,
+            duration,
+        );
         let report = total.report;
         let memory = total.memory;
         let spans = spans::again(spans);

@@ -4,6 +4,7 @@ use Rattle.determined.specs.Determined.{Fixed, asks-nothing, both, one, _&_, me
 use Rattle.seat.proofs.seat_encode as seat-encode
 use Rattle.seat.proofs.seat_encode_closed as seat-encode-closed
 use Rattle.seat.proofs.seat_lookup as seat-lookup
+use Rattle.seat.proofs.seat_measure as seat-measure
 
 seat-encode-fixed : Fixed seat-encode.ended (λ M. seat-encode.clauses) seat-encode.Symbol.routine
 seat-encode-fixed M 𝓤 H 𝓜 𝓖 𝓡 =
@@ -16,3 +17,7 @@ seat-encode-closed-fixed M 𝓤 H 𝓜 𝓖 𝓡 =
 seat-lookup-fixed : Fixed seat-lookup.ended (λ M. seat-lookup.clauses) seat-lookup.Symbol.routine
 seat-lookup-fixed M 𝓤 H 𝓜 𝓖 𝓡 =
     (seat-lookup.Met.met 𝓤 H 𝓜 𝓖 𝓡, λ κs a. asks-nothing 𝓤, λ κs a g h r s v w. both (one & one) (one & one) (λ p q. (meet (p .0) (q .0), refl ⨾ refl ⨾ refl ⨾ meet (p .1) (q .1) ⨾ refl)))
+
+seat-measure-fixed : Fixed seat-measure.ended (λ M. seat-measure.clauses) seat-measure.Symbol.routine
+seat-measure-fixed M 𝓤 H 𝓜 𝓖 𝓡 =
+    (seat-measure.Met.met 𝓤 H 𝓜 𝓖 𝓡, λ κs a. asks-nothing 𝓤, λ κs a g h r s v w. both (one & one & one) (one & one & one) (λ p q. (meet (p .0) (q .0), refl ⨾ refl ⨾ refl ⨾ meet (p .1 .0) (q .1 .0) ⨾ meet (p .1 .1) (q .1 .1) ⨾ refl)))

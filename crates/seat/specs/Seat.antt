@@ -2,12 +2,17 @@
 -- Encoding by number is in `protocols`. Here stands what a lookup returns, 0 or document 01's refusal number, and what each call leaves in the number
 -- that it is lent. Refusals 2 and 1 leave what it held: "nothing built or written".
 use Prim.Native.Nat.{ℕ}
-use Rattle.spans.specs.Spans.{spansOf, refusalNumber}
-use Rattle.spans.specs.Lookup.{lookupOf, placeOf}
+use lib.IntN.{ℤ}
+use Rattle.refusals.specs.Refusals as refusal
+use Rattle.spans.specs.Spans.{spansOf}
+use Rattle.spans.specs.Lookup.{lookupOf, placeOf, differenceOr}
+use Rattle.spans.specs.declared.Found.{Found}
 use Rattle.spans.specs.declared.Answer.{Answer}
 use Rattle.spans.specs.declared.Answer.the-variants.{Taken, Refused}
 use Rattle.frames.specs.declared.Encoded.{Encoded}
 use Rattle.frames.specs.declared.Encoded.the-variants as encoded
+use Rattle.seat.specs.declared.LookedUp.{LookedUp}
+use Rattle.seat.specs.declared.LookedUp.the-variants as looked
 
 -- the lent length after an encoding: the count written; with refusal 3 "the length needed"; with 2 and 1 what it held
 abbrev pub lengthAfter : Encoded → ℕ → ℕ
@@ -15,17 +20,27 @@ lengthAfter (encoded.Wrote count) held = count
 lengthAfter (encoded.Refused number) held = held
 lengthAfter (encoded.Short needed) held = needed
 
--- the number that a lookup returns: 0, or refusal 2, then 1
-abbrev pub lookupNumber : ℕ → ℕ → ℕ
-lookupNumber protocol rate = refusalNumber (spansOf protocol rate .answer)
+-- what a lookup answers: refusal 2, then 1, or what was found in the spans of the protocol at the rate
+abbrev pub foundIf : Answer → Found → LookedUp
+foundIf Taken found = looked.Found found
+foundIf (Refused number) found = looked.Refused number
 
--- what was found, or with a refusal what the lent place held
-abbrev pub foundOr : Answer → ℕ → ℕ → ℕ
-foundOr Taken found held = found
-foundOr (Refused number) found held = held
+unfoldable pub lookedUp : ℕ → ℕ → ℕ → LookedUp
+lookedUp protocol rate duration =
+    let built = spansOf protocol rate in
+    foundIf (built .answer) (lookupOf (built .spans) duration)
+
+-- the number that a lookup returns
+abbrev pub lookupNumber : LookedUp → ℕ
+lookupNumber (looked.Found found) = refusal.none
+lookupNumber (looked.Refused number) = number
 
 -- the lent place after a lookup: "the lowest place, counted from 0, whose span holds the duration, or none"; with 2 and 1 what it held
-abbrev pub placeAfter : ℕ → ℕ → ℕ → ℕ → ℕ
-placeAfter protocol rate duration held =
-    let built = spansOf protocol rate in
-    foundOr (built .answer) (placeOf (lookupOf (built .spans) duration)) held
+abbrev pub placeAfter : LookedUp → ℕ → ℕ
+placeAfter (looked.Found found) held = placeOf found
+placeAfter (looked.Refused number) held = held
+
+-- the lent difference: "the signed difference between the duration and that span's base, negative when short"; with none, and with 2 and 1, what it held
+abbrev pub differenceAfter : LookedUp → ℤ → ℤ
+differenceAfter (looked.Found found) held = differenceOr held found
+differenceAfter (looked.Refused number) held = held

@@ -2,11 +2,12 @@
 // Each call returns 0 or document 01's refusal number, and stores its result in a number that the caller lends. Refusals 2 and 1 store nothing.
 use frames::Encoded;
 use spans::Answer;
+use spans::Found;
 ghost use mathlib.Core.Path.{_≡_};
 ghost use Rattle.refusals.specs.Refusals.{closedTaken};
 ghost use Rattle.frames.specs.Frames.{encodedNumber};
 ghost use Rattle.protocols.specs.Encoder.{frameBy, encodedBy, leftBy, closedBy, encodedIf, leftIf};
-ghost use Rattle.seat.specs.Seat.{lengthAfter, lookupNumber, placeAfter};
+ghost use Rattle.seat.specs.Seat.{lengthAfter, lookedUp, lookupNumber, placeAfter, differenceAfter};
 
 // What a call on frames returns and stores of an encoder's answer.
 fn told(encoded: Encoded, length: &mut usize) -> u32
@@ -65,19 +66,63 @@ pub extern "C" fn seat_encode_closed(
     told(encoded, length)
 }
 
+// What a lookup answers: what was found, or a refusal.
+enum LookedUp {
+    Found(Found),
+    Refused(u32),
+}
+
 // The lookup of a duration in the spans of a protocol, 1 to 5, at a rate. Refusals: 2, then 1.
-// `place` receives the lowest place, 0 to 7, or 8 for none; with a refusal it is as it was.
-#[no_mangle]
-pub extern "C" fn seat_lookup(protocol: u32, rate: u32, duration: u64, place: &mut u32) -> u32
-    ensures number { λ r. ⌜ r ≡ lookupNumber protocol rate ⌝ }
-    ensures found { λ _. ⌜ now (place .exit) ≡ placeAfter protocol rate duration (now (place .entry)) ⌝ }
+fn looked_up(protocol: u32, rate: u32, duration: u64) -> LookedUp
+    ensures { λ r. ⌜ r ≡ lookedUp protocol rate duration ⌝ }
 {
     let built = spans::spans_of(protocol, rate);
     let answer = built.answer;
     let spans = built.spans;
-    if let Answer::Refused(number) = answer {
-        return number;
+    match answer {
+        Answer::Taken => LookedUp::Found(spans::lookup(spans, duration)),
+        Answer::Refused(number) => LookedUp::Refused(number),
     }
-    *place = spans::place_of(spans::lookup(spans, duration));
-    refusals::NONE
+}
+
+// The place of a duration. `place` receives the lowest place, 0 to 7, or 8 for none; with a refusal it is as it was.
+#[no_mangle]
+pub extern "C" fn seat_lookup(protocol: u32, rate: u32, duration: u64, place: &mut u32) -> u32
+    ensures number { λ r. ⌜ r ≡ lookupNumber (lookedUp protocol rate duration) ⌝ }
+    ensures found { λ _. ⌜ now (place .exit) ≡ placeAfter (lookedUp protocol rate duration) (now (place .entry)) ⌝ }
+{
+    match looked_up(protocol, rate, duration) {
+        LookedUp::Found(found) => {
+            *place = spans::place_of(found);
+            refusals::NONE
+        }
+        LookedUp::Refused(number) => number,
+    }
+}
+
+// The place of a duration, and how far it lies from the base there, negative when short. `place` is as for `seat_lookup`.
+// `difference` receives the difference. Where the place is 8, and with a refusal, it is as it was.
+#[no_mangle]
+pub extern "C" fn seat_measure(
+    protocol: u32,
+    rate: u32,
+    duration: u64,
+    place: &mut u32,
+    difference: &mut i64,
+) -> u32
+    ensures number { λ r. ⌜ r ≡ lookupNumber (lookedUp protocol rate duration) ⌝ }
+    ensures place { λ _. ⌜ now (place .exit) ≡ placeAfter (lookedUp protocol rate duration) (now (place .entry)) ⌝ }
+    ensures difference { λ _. ⌜ now (difference .exit) ≡ differenceAfter (lookedUp protocol rate duration) (now (difference .entry)) ⌝ }
+{
+    match looked_up(protocol, rate, duration) {
+        LookedUp::Found(found) => {
+            *place = spans::place_of(found);
+            if let Found::At(measured) = found {
+                let by = measured.difference;
+                *difference = by;
+            }
+            refusals::NONE
+        }
+        LookedUp::Refused(number) => number,
+    }
 }

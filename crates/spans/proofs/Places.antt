@@ -10,10 +10,10 @@ use lib.ListN.{getD}
 use borrow.Author.Tests.{le-leb, lt-leb, ltb-true}
 use Rattle.refusals.specs.Refusals.{within}
 use Rattle.spans.specs.Spans.{spansOf}
-use Rattle.spans.specs.Lookup.{holds, lowestFrom, lookupOf, placeOf}
+use Rattle.spans.specs.Lookup.{baseAt, holds, foundAt, lowestFrom, lookupOf, placeOf}
 use Rattle.spans.specs.declared.Spans.{Spans}
 use Rattle.spans.specs.declared.Found.{Found}
-use Rattle.spans.specs.declared.Found.the-variants.{At, None}
+use Rattle.spans.specs.declared.Found.the-variants.{None}
 
 and-false : (x : Bool) → (x && false) ≡ false
 and-false true = refl
@@ -58,19 +58,19 @@ module _ (spans : Spans) where
   noneReads (suc left) place least = ltb (getD (spans .high) place 0) least && noneReads left (place + 1) least
 
   module _ (least most duration : ℕ) (from : least ≤ duration) (to : duration ≤ most) where
-    reads-lowest : (left place on : ℕ) → T (allRead left place on least most) → lowestFrom spans duration left place ≡ At (place + on)
+    reads-lowest : (left place on : ℕ) → T (allRead left place on least most) → lowestFrom spans duration left place ≡ foundAt (place + on) (baseAt spans (place + on)) duration
     unfolding allRead lowestFrom
     reads-lowest zero place on t = absurd t
     reads-lowest (suc left) place zero t =
         let (a, b) = both (leb (getD (spans .low) place 0) least) (leb most (getD (spans .high) place 0)) t in
         let same : place ≡ place + 0 = omega arith in
         rw (inside (getD (spans .low) place 0) (getD (spans .high) place 0) duration (omega (arith, leb→le (getD (spans .low) place 0) least a)) (omega (arith, leb→le most (getD (spans .high) place 0) b)))
-        (ap At same)
+        (ap (λ (k : ℕ). foundAt k (baseAt spans k) duration) same)
     reads-lowest (suc left) place (suc on) t =
         let (a, b) = both (apart (getD (spans .low) place 0) (getD (spans .high) place 0) least most) (allRead left (place + 1) on least most) t in
         let same : place + 1 + on ≡ place + suc on = omega arith in
         rw (outside (getD (spans .low) place 0) (getD (spans .high) place 0) least most duration a from to)
-        (reads-lowest left (place + 1) on b ∙ ap At same)
+        (reads-lowest left (place + 1) on b ∙ ap (λ (k : ℕ). foundAt k (baseAt spans k) duration) same)
 
   module _ (least duration : ℕ) (from : least ≤ duration) where
     ends-lowest : (left place : ℕ) → T (noneReads left place least) → lowestFrom spans duration left place ≡ None
@@ -96,7 +96,7 @@ abbrev pub NoneBelow : ℕ → ℕ → Type 0
 NoneBelow zero k = Unit
 NoneBelow (suc n) k = NoneBelow n k × (k ≡ n → ⊥)
 
-none-below : (n k : ℕ) → NoneBelow n k → n ≤ k
+pub none-below : (n k : ℕ) → NoneBelow n k → n ≤ k
 none-below zero k h = omega arith
 none-below (suc n) k (h, ne) = omega (arith, none-below n k h, ne)
 
@@ -107,7 +107,7 @@ module _ (spans : Spans) (duration : ℕ) where
   lowest-le zero place e = omega arith
   lowest-le (suc left) place e = go (lowestFrom spans duration left (place + 1)) (holds spans duration place) (lowest-le left (place + 1) (omega arith))
     where
-      go : (later : Found) (test : Bool) → placeOf later ≤ 8 → placeOf (cond test (At place) later) ≤ 8
+      go : (later : Found) (test : Bool) → placeOf later ≤ 8 → placeOf (cond test (foundAt place (baseAt spans place) duration) later) ≤ 8
       go later true h = omega arith
       go later false h = h
 

@@ -1,4 +1,4 @@
--- Document 01, "Spans": base, margin and ends.
+-- Document 01, "Spans": base, margin and ends. Document 02, Req 07: "Each span shall keep its base too".
 use Prim.Native.Nat.{ℕ, _+_, _-_, _*_, _/_}
 use mathlib.Core.List.{List, [], _∷_}
 use Rattle.refusals.specs.Refusals.{inOrder, buildTests}
@@ -19,14 +19,14 @@ marginOf base percent = base * percent / 100
 
 -- "A span is base − margin to base + margin, ends included"
 abbrev pub spanOf : ℕ → ℕ → Span
-spanOf base percent = record { low = base - marginOf base percent; high = base + marginOf base percent }
+spanOf base percent = record { base = base; low = base - marginOf base percent; high = base + marginOf base percent }
 
 abbrev pub spanAt : ℕ → ℕ → ℕ → Span
 spanAt protocol rate place = spanOf (baseOf (lengthAt protocol place) rate) (percentAt protocol place)
 
--- eight spans by their low and their high ends
-abbrev pub ends : List ℕ → List ℕ → Spans
-ends low high = record { low = low; high = high }
+-- eight spans by their bases, their low and their high ends
+abbrev pub columns : List ℕ → List ℕ → List ℕ → Spans
+columns base low high = record { base = base; low = low; high = high }
 
 abbrev pub eight : (ℕ → ℕ) → List ℕ
 eight f = f 0 ∷ f 1 ∷ f 2 ∷ f 3 ∷ f 4 ∷ f 5 ∷ f 6 ∷ f 7 ∷ []
@@ -34,11 +34,13 @@ eight f = f 0 ∷ f 1 ∷ f 2 ∷ f 3 ∷ f 4 ∷ f 5 ∷ f 6 ∷ f 7 ∷ []
 -- the eight spans of a protocol, 1 to 5
 unfoldable pub spansAt : ℕ → ℕ → Spans
 spansAt protocol rate =
-    ends (eight (λ place. spanAt protocol rate place .low)) (eight (λ place. spanAt protocol rate place .high))
+    columns (eight (λ place. spanAt protocol rate place .base))
+    (eight (λ place. spanAt protocol rate place .low))
+    (eight (λ place. spanAt protocol rate place .high))
 
--- "the number; nothing built": the ends are all 0
+-- "the number; nothing built": bases and ends are all 0
 abbrev pub refused : ℕ → SpansAnswer
-refused number = record { answer = Refused number; spans = ends (eight (λ place. 0)) (eight (λ place. 0)) }
+refused number = record { answer = Refused number; spans = columns (eight (λ place. 0)) (eight (λ place. 0)) (eight (λ place. 0)) }
 
 -- refusals 2, then 1
 unfoldable pub spansOf : ℕ → ℕ → SpansAnswer

@@ -4,16 +4,18 @@ mod tables;
 ghost use mathlib.Core.Path.{_≡_};
 ghost use Prim.Native.Nat.{_*_, _/_, _<_, _≤_};
 ghost use lib.ListN.{length};
-ghost use Rattle.spans.specs.Spans.{baseOf, spanAt, spansAt, spansOf, refused, ends};
-ghost use Rattle.spans.specs.Lookup.{lookupOf, placeOf};
+ghost use Rattle.spans.specs.Spans.{baseOf, spanAt, spansAt, spansOf, refused, columns};
+ghost use Rattle.spans.specs.Lookup.{foundAt, lookupOf, placeOf};
 
 pub struct Span {
+    pub base: u32,
     pub low: u32,
     pub high: u32,
 }
 
-// The ends of eight spans, by place.
+// The bases and the ends of eight spans, by place.
 pub struct Spans {
+    pub base: [u32; 8],
     pub low: [u32; 8],
     pub high: [u32; 8],
 }
@@ -29,9 +31,15 @@ pub struct SpansAnswer {
     pub spans: Spans,
 }
 
+// A place, and how far a duration lies from the base there: negative when short.
+pub struct Measured {
+    pub place: u32,
+    pub difference: i64,
+}
+
 // The lowest place whose span holds a duration.
 pub enum Found {
-    At(u32),
+    At(Measured),
     None,
 }
 
@@ -60,6 +68,7 @@ fn span_at(protocol: u32, rate: u32, place: usize) -> Span
     let base = base(tables::length_at(protocol, place), rate);
     let margin = margin(base, tables::percent_at(protocol, place));
     Span {
+        base,
         low: base - margin,
         high: base + margin,
     }
@@ -78,6 +87,16 @@ fn spans_at(protocol: u32, rate: u32) -> Spans
     let g = span_at(protocol, rate, 6);
     let h = span_at(protocol, rate, 7);
     Spans {
+        base: [
+            a.base,
+            b.base,
+            c.base,
+            d.base,
+            e.base,
+            f.base,
+            g.base,
+            h.base,
+        ],
         low: [a.low, b.low, c.low, d.low, e.low, f.low, g.low, h.low],
         high: [
             a.high,
@@ -98,6 +117,7 @@ fn refusal(number: u32) -> SpansAnswer
     SpansAnswer {
         answer: Answer::Refused(number),
         spans: Spans {
+            base: [0; 8],
             low: [0; 8],
             high: [0; 8],
         },
@@ -119,14 +139,28 @@ pub fn spans_of(protocol: u32, rate: u32) -> SpansAnswer
     }
 }
 
-// The lookup in span ends that the caller lends. A duration may be a sum above 32 bits, which no span holds.
-pub fn lookup_in<'a>(low: &'a [u32; 8], high: &'a [u32; 8], duration: u64) -> Found
-    ensures { λ r. ⌜ r ≡ lookupOf (ends (now (low .entry)) (now (high .entry))) duration ⌝ }
+// What is found at a place whose span, up to its high end, holds the duration. Duration and base fit 32 bits, so their difference is exact.
+fn found_at(place: u32, base: u32, high: u32, duration: u64) -> Found
+    requires { ⌜ duration ≤ high ⌝ }
+    ensures { λ r. ⌜ r ≡ foundAt place base duration ⌝ }
+{
+    let difference = duration as i64 - base as i64;
+    Found::At(Measured { place, difference })
+}
+
+// The lookup in bases and span ends that the caller lends. A duration may be a sum above 32 bits, which no span holds.
+pub fn lookup_in<'a>(
+    base: &'a [u32; 8],
+    low: &'a [u32; 8],
+    high: &'a [u32; 8],
+    duration: u64,
+) -> Found
+    ensures { λ r. ⌜ r ≡ lookupOf (columns (now (base .entry)) (now (low .entry)) (now (high .entry))) duration ⌝ }
 {
     let mut place: usize = 0;
     while place < 8 {
         if refusals::is_within(low[place], duration, high[place]) {
-            return Found::At(place as u32);
+            return found_at(place as u32, base[place], high[place], duration);
         }
         place += 1;
     }
@@ -137,7 +171,7 @@ pub fn lookup_in<'a>(low: &'a [u32; 8], high: &'a [u32; 8], duration: u64) -> Fo
 pub fn lookup(spans: Spans, duration: u64) -> Found
     ensures { λ r. ⌜ r ≡ lookupOf spans duration ⌝ }
 {
-    lookup_in(&spans.low, &spans.high, duration)
+    lookup_in(&spans.base, &spans.low, &spans.high, duration)
 }
 
 // The place as a number: 8 is none of the eight.
@@ -145,12 +179,12 @@ pub fn place_of(found: Found) -> u32
     ensures { λ r. ⌜ r ≡ placeOf found ⌝ }
 {
     match found {
-        Found::At(place) => place,
+        Found::At(measured) => measured.place,
         Found::None => 8,
     }
 }
 
-// Eight ends, read one by one.
+// Eight numbers, read one by one.
 fn each<'a>(lent: &'a [u32]) -> [u32; 8]
     requires { ⌜ length (now lent) ≡ 8 ⌝ }
     ensures { λ r. ⌜ r ≡ now (lent .entry) ⌝ }
@@ -167,11 +201,12 @@ fn each<'a>(lent: &'a [u32]) -> [u32; 8]
     ]
 }
 
-// The same spans, built end by end: an array that is handed on whole is moved as bytes, and its ends then stay in no register.
+// The same spans, built number by number: an array that is handed on whole is moved as bytes, and its numbers then stay in no register.
 pub fn again(spans: Spans) -> Spans
     ensures { λ r. ⌜ r ≡ spans ⌝ }
 {
     Spans {
+        base: each(&spans.base),
         low: each(&spans.low),
         high: each(&spans.high),
     }

@@ -4,6 +4,7 @@ use Rattle.determined.specs.Determined.{Fixed, asks-nothing, both, one, _&_, al
 use Rattle.text.proofs.put as put
 use Rattle.text.proofs.put_letters as put-letters
 use Rattle.text.proofs.put_number as put-number
+use Rattle.text.proofs.put_signed as put-signed
 use Rattle.text.proofs.put_numbers as put-numbers
 use Rattle.text.proofs.put_durations as put-durations
 use Rattle.text.proofs.words.fresh as fresh
@@ -20,6 +21,9 @@ put-letters-fixed M 𝓤 H 𝓜 𝓖 𝓡 = (put-letters.Met.met 𝓤 H 𝓜 �
 
 put-number-fixed : Fixed put-number.ended (λ M. put-number.clauses) put-number.Symbol.routine
 put-number-fixed M 𝓤 H 𝓜 𝓖 𝓡 = (put-number.Met.met 𝓤 H 𝓜 𝓖 𝓡, λ κs a. asks-nothing 𝓤, λ κs a g h r s v w. both (one & one) (one & one) alike-left)
+
+put-signed-fixed : Fixed put-signed.ended (λ M. put-signed.clauses) put-signed.Symbol.routine
+put-signed-fixed M 𝓤 H 𝓜 𝓖 𝓡 = (put-signed.Met.met 𝓤 H 𝓜 𝓖 𝓡, λ κs a. asks-nothing 𝓤, λ κs a g h r s v w. both (one & one) (one & one) alike-left)
 
 put-numbers-fixed : Fixed put-numbers.ended (λ M. put-numbers.clauses) put-numbers.Symbol.routine
 put-numbers-fixed M 𝓤 H 𝓜 𝓖 𝓡 = (put-numbers.Met.met 𝓤 H 𝓜 𝓖 𝓡, λ κs a. asks-nothing 𝓤, λ κs a g h r s v w. both (one & one) (one & one) alike-left)

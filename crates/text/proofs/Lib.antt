@@ -1,4 +1,5 @@
 pub mod Puts
+pub mod Signed
 pub mod Parts
 pub mod Shown
 pub mod Tests

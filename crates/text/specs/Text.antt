@@ -4,7 +4,9 @@ use Prim.Native.Char.{Char, code}
 use mathlib.Core.Bool.{Bool, true, cond, _&&_}
 use mathlib.Core.List.{List, [], _∷_, _++_, map}
 use lib.Dec.{leb, ltb}
+use lib.IntN.{ℤ, natAbs}
 use lib.ListN.{length, set}
+use lib.Signed.{nonNeg}
 
 -- a character at a place, where there is room; 0 is none
 unfoldable pub putOf : List ℕ → ℕ → ℕ → List ℕ × ℕ
@@ -49,6 +51,14 @@ digitsOf (suc n) power x = digitAt x power ∷ digitsOf n (power / 10) x
 -- a number below 2^64 in decimal: at most 20 digits
 unfoldable pub decimal : ℕ → List ℕ
 decimal x = digitsOf 20 (10 ^ 19) x
+
+-- a minus where a number is negative
+abbrev pub signOf : ℤ → ℕ
+signOf x = cond (nonNeg x) 0 (code "-")
+
+-- a number of either sign in decimal
+unfoldable pub signedDecimal : ℤ → List ℕ
+signedDecimal x = signOf x ∷ decimal (natAbs x)
 
 -- a number after a blank, where it is to be put
 unfoldable pub nextText : Bool → ℕ → List ℕ

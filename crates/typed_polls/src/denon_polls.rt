@@ -47,7 +47,14 @@ fn by_value(receiver: DenonPolled, level: bool) -> DenonPolledTotal
         }
         crate::Turn::Edge(run, time) => {
             let spans = decoder.spans;
-            let total = denon::decoder::total_in(&spans.low, &spans.high, memory, level, run);
+            let total = denon::decoder::total_in(
+                &spans.base,
+                &spans.low,
+                &spans.high,
+                memory,
+                level,
+                run,
+            );
             let report = total.report;
             let memory = total.memory;
             let spans = spans::again(spans); // else its ends stay in no register

@@ -47,7 +47,14 @@ fn by_value(receiver: NecPolled, level: bool) -> NecPolledTotal
         }
         crate::Turn::Edge(run, time) => {
             let spans = decoder.spans;
-            let total = nec::decoder::total_in(&spans.low, &spans.high, memory, level, run);
+            let total = nec::decoder::total_in(
+                &spans.base,
+                &spans.low,
+                &spans.high,
+                memory,
+                level,
+                run,
+            );
             let report = total.report;
             let memory = total.memory;
             let decoder = NecDecoder { spans, memory };

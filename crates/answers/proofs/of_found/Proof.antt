@@ -12,5 +12,5 @@ of-found-spec =
     (λ c κs. tt)
     (λ c. search needs)
     (λ c κs. tt)
-    (λ c. simp (c .with .ensures, c .before .before .found .given .1))
+    (λ c. simp (c .with .ensures, c .before .before .before .found .given .1))
     (λ c. simp (c .text .ensures, c .before .enum-told .given .1)))

@@ -3,7 +3,7 @@ use mathlib.Core.Path.{_≡_, refl, sym, ap, _∙_}
 use mathlib.Core.Bool.{Bool, cond}
 use borrow.Author.Needs.{needs}
 use Rattle.refusals.specs.Refusals as refusal
-use Rattle.spans.specs.Spans.{ends}
+use Rattle.spans.specs.Spans.{columns}
 use Rattle.polled.specs.PolledSteps.{receiverOf, partOf}
 use Rattle.polled.proofs.Polls.{refused, unchanged, changed, run-length}
 use Rattle.polled.proofs.step.Statement.{statement}
@@ -17,7 +17,7 @@ returns : tie.Need-returns
 returns c =
     let p = c .before .before in
     let a = p .before .args in
-    let z = receiverOf (ends (a .low .now) (a .high .now)) (a .memory) (a .clock) (a .last-edge) (a .was) in
+    let z = receiverOf (columns (a .base .now) (a .low .now) (a .high .now)) (a .memory) (a .clock) (a .last-edge) (a .was) in
     c .stepped-to .ensures ∙ sym (ap partOf (refused z (a .level) (number (sym (p .past-end .ensures) ∙ c .before .if1 .taken)) refl))
 
 returns-2 : tie.Need-returns-2
@@ -25,7 +25,7 @@ returns-2 c =
     let n = c .before .before in
     let o = n .before in
     let a = o .before .before .args in
-    let z = receiverOf (ends (a .low .now) (a .high .now)) (a .memory) (a .clock) (a .last-edge) (a .was) in
+    let z = receiverOf (columns (a .base .now) (a .low .now) (a .high .now)) (a .memory) (a .clock) (a .last-edge) (a .was) in
     simp (c .stepped-to2 .ensures, unchanged z (a .level) (number (sym (o .before .past-end .ensures) ∙ o .if1 .left)) (c .before .if2 .taken), n .wrapping-add-u32 .ensures)
 
 returns-3 : tie.Need-returns-3
@@ -36,7 +36,7 @@ returns-3 c =
     let n = e .before in
     let o = n .before in
     let a = o .before .before .args in
-    let z = receiverOf (ends (a .low .now) (a .high .now)) (a .memory) (a .clock) (a .last-edge) (a .was) in
+    let z = receiverOf (columns (a .base .now) (a .low .now) (a .high .now)) (a .memory) (a .clock) (a .last-edge) (a .was) in
     simp (
       c .stepped-to3 .ensures,
       changed z (a .level) (number (sym (o .before .past-end .ensures) ∙ o .if1 .left)) (e .if2 .left),

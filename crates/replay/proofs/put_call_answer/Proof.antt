@@ -7,8 +7,6 @@ pub put-call-answer-spec : {M : Type 1} → statement M
 put-call-answer-spec =
     tie.close
     (tie.spec
-    (λ c. search needs)
-    (λ c. search needs)
     (λ c κs. tt)
     (λ c. search needs)
     (λ c. tt)

@@ -7,10 +7,17 @@ pub put-spans-call-spec : {M : Type 1} → statement M
 put-spans-call-spec =
     tie.close
     (tie.spec
+    (λ c. search needs)
+    (λ c κs. tt)
+    (λ c. search needs)
     (λ c κs. tt)
     (λ c κs. tt)
     (λ c κs. tt)
     (λ c κs. tt)
+    (λ c κs. tt)
+    (λ c. search needs)
+    (λ c. tt)
+    (λ c. search needs)
     (λ c κs. tt)
     (λ c κs. tt)
     (λ c. search needs)

@@ -1,11 +1,7 @@
 -- `spans::tables::length_at` meets its contract: the code's table is the definition's, entry by entry. Assumes nothing.
 use mathlib.Core.Path.{refl}
-use native.Mathlib.Nat.{lt-of-le-of-lt}
-use native.Mathlib.Omega.{arith}
-use borrow.Author.Needs.{needs}
-use Prim.Native.Nat.{_-_}
 use Rattle.spans.specs.Tables.{lengths}
-use Rattle.spans.proofs.Entries.{entry-le}
+use Rattle.spans.proofs.Entries.{unused, fifth}
 use Rattle.spans.proofs.tables.length_at.Statement.{statement}
 use Rattle.spans.proofs.tables.length_at.Tie as tie
 
@@ -13,11 +9,22 @@ pub length-at-spec : {M : Type 1} → statement M
 length-at-spec =
     tie.close
     (tie.spec
-    (λ c. search needs)
-    (λ c. search needs)
-    (λ c. search needs)
-    (λ c. search needs)
-    (λ c. search needs)
-    (λ c. search needs)
-    (λ c. record { fits = lt-of-le-of-lt (entry-le 13500 lengths refl (c .before .args .protocol - 1) (c .before .args .place)) (omega arith) })
-    (λ c. (search needs, entry-le 13500 lengths refl (c .before .args .protocol - 1) (c .before .args .place))))
+    (λ c κs. tt)
+    (λ c. simp (c .before .match .keys1, c .match2 .keys1))
+    (λ c. simp (c .before .match .keys1, c .match2 .keys2))
+    (λ c. simp (c .before .match .keys1, c .match2 .keys3))
+    (λ c. simp (c .before .match .keys1, c .match2 .keys4))
+    (λ c. simp (c .before .match .keys1) (unused lengths 0 4 refl (c .before .before .args .place) (c .match2 .rest)))
+    (λ c. simp (c .before .match .keys2, c .match3 .keys1))
+    (λ c. simp (c .before .match .keys2, c .match3 .keys2))
+    (λ c. simp (c .before .match .keys2) (unused lengths 1 2 refl (c .before .before .args .place) (c .match3 .rest)))
+    (λ c. simp (c .before .match .keys3) (c .rc6-length .ensures))
+    (λ c. simp (c .before .match .keys4, c .match4 .keys1))
+    (λ c. simp (c .before .match .keys4, c .match4 .keys2))
+    (λ c. simp (c .before .match .keys4, c .match4 .keys3))
+    (λ c. simp (c .before .match .keys4, c .match4 .keys4))
+    (λ c. simp (c .before .match .keys4) (unused lengths 3 4 refl (c .before .before .args .place) (c .match4 .rest)))
+    (λ c. simp (fifth _ (c .before .before .pre .0) (c .before .before .pre .1) (c .before .match .rest), c .match5 .keys1))
+    (λ c. simp (fifth _ (c .before .before .pre .0) (c .before .before .pre .1) (c .before .match .rest), c .match5 .keys2))
+    (λ c. simp (fifth _ (c .before .before .pre .0) (c .before .before .pre .1) (c .before .match .rest), c .match5 .keys3))
+    (λ c. simp (fifth _ (c .before .before .pre .0) (c .before .before .pre .1) (c .before .match .rest)) (unused lengths 4 3 refl (c .before .before .args .place) (c .match5 .rest))))
