@@ -72,7 +72,7 @@
  *
  * All functions end, keep nothing between calls, have no data of their own and
  * call no function of the caller's, so they may be called from several threads
- * at once. They take less than 300 bytes of stack (measured, not proved).
+ * at once. They take less than 320 bytes of stack (measured, not proved).
  */
 
 #ifndef DORZHIMU_SEAT_H
@@ -235,8 +235,8 @@ uint32_t seat_encode_closed(uint32_t protocol, uint32_t rate,
  *
  * A refused call writes nothing: `*place` is as it was.
  *
- * Each call computes the eight spans anew, in some 350 instructions on x86-64 and
- * 1,650 on a Cortex-M0 (counted, not proved).
+ * Each call computes the eight spans anew. All of it takes up to 950 instructions
+ * on a Cortex-M0 and 600 on a Cortex-M4 (counted, not proved).
  *
  * \param protocol   protocol number, `SEAT_NEC` to `SEAT_DENON`.
  * \param rate       ticks a second, 1 to `SEAT_LAST_RATE`.
@@ -253,8 +253,8 @@ uint32_t seat_lookup(uint32_t protocol, uint32_t rate, uint64_t duration, uint32
  * less the base of that place's span: negative where the pulse is short, positive
  * where it is long, and 0 where it is just as long as it should be. The base is
  * the pulse length in ticks of `rate`, rounded down; for the places that hold
- * duration 0 alone it is 0. A difference never lies beyond the span's tolerance,
- * so it is at most 9,141 either way (NEC's sync at `SEAT_LAST_RATE`).
+ * duration 0 alone it is 0. A difference never lies beyond the span's tolerance
+ * (proved). The widest is 9,141 ticks, of NEC's sync at `SEAT_LAST_RATE`.
  *
  * Refusals, in the order in which they are tested, and nothing else is refused:
  *

@@ -268,7 +268,7 @@ impl Rc5Decoder {
         let made = spans::spans_of(2, rate);
         let answer = made.answer;
         let spans = made.spans;
-        let spans = spans::again(spans); // else padding that is 0 is not known to be 0 where the decoder is made
+        let spans = spans::again(spans); // so that the compiler sees the zeros of the padding
         let memory = fresh();
         let decoder = Rc5Decoder { spans, memory };
         Rc5Made { answer, decoder }

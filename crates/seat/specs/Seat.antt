@@ -1,6 +1,6 @@
 -- Document 01, "What must change shape": seat firmware in C "calls encoding and lookup over plain numbers and slices".
--- Encoding by number is in `protocols`. Here stands what a lookup returns, 0 or document 01's refusal number, and what each call leaves in the number
--- that it is lent. Refusals 2 and 1 leave what it held: "nothing built or written".
+-- Encoding by number is in `protocols`. Here stands what a lookup answers, what it returns, and what each call leaves in the numbers that it is lent.
+-- Refusals 2 and 1 leave what they held: "nothing built or written".
 use Prim.Native.Nat.{ℕ}
 use lib.IntN.{ℤ}
 use Rattle.refusals.specs.Refusals as refusal

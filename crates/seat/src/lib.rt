@@ -1,5 +1,5 @@
 // What seat firmware in C calls: encoding and lookup over plain numbers and slices. include/dorzhimu_seat.h has the prototypes and what the caller owes.
-// Each call returns 0 or document 01's refusal number, and stores its result in a number that the caller lends. Refusals 2 and 1 store nothing.
+// Each call returns 0 or document 01's refusal number, and stores its result in numbers that the caller lends. Refusals 2 and 1 store nothing.
 use frames::Encoded;
 use spans::Answer;
 use spans::Found;

@@ -139,7 +139,7 @@ pub fn spans_of(protocol: u32, rate: u32) -> SpansAnswer
     }
 }
 
-// What is found at a place whose span, up to its high end, holds the duration. Duration and base fit 32 bits, so their difference is exact.
+// What is found at a place whose span holds the duration. The high end shows that the duration fits 32 bits, as the base does; so the difference is exact.
 fn found_at(place: u32, base: u32, high: u32, duration: u64) -> Found
     requires { ⌜ duration ≤ high ⌝ }
     ensures { λ r. ⌜ r ≡ foundAt place base duration ⌝ }

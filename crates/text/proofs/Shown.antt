@@ -1,8 +1,9 @@
--- A zero puts nothing, and `decimal` means what it says, as some numbers show. Assumes nothing.
+-- A zero puts nothing, and `decimal` and `signedDecimal` mean what they say, as some numbers show. Assumes nothing.
 use Prim.Native.Nat.{ℕ, zero, suc, _-_, _^_}
 use mathlib.Core.Path.{_≡_, refl}
 use mathlib.Core.List.{List, [], _∷_}
-use Rattle.text.specs.Text.{putOf, putsOf, shown, chars, digitsOf, decimal}
+use lib.IntN.{pos, negℤ}
+use Rattle.text.specs.Text.{putOf, putsOf, shown, chars, digitsOf, decimal, signedDecimal}
 
 pub puts-shown : (text : List ℕ) (at : ℕ) (bs : List ℕ) → putsOf text at (shown bs) ≡ putsOf text at bs
 unfolding putsOf putOf
@@ -27,3 +28,11 @@ pub decimal-last
     ≡ chars ("1" ∷ "8" ∷ "4" ∷ "4" ∷ "6" ∷ "7" ∷ "4" ∷ "4" ∷ "0" ∷ "7" ∷ "3" ∷ "7" ∷ "0" ∷ "9" ∷ "5" ∷ "5" ∷ "1" ∷ "6" ∷ "1" ∷ "5" ∷ [])
 unfolding decimal digitsOf
 decimal-last = refl
+
+pub minus-9 : shown (signedDecimal (negℤ (pos 9))) ≡ chars ("-" ∷ "9" ∷ [])
+unfolding signedDecimal decimal digitsOf
+minus-9 = refl
+
+pub plus-213 : shown (signedDecimal (pos 213)) ≡ chars ("2" ∷ "1" ∷ "3" ∷ [])
+unfolding signedDecimal decimal digitsOf
+plus-213 = refl
