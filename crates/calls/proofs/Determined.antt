@@ -5,7 +5,6 @@ use Rattle.calls.proofs.call_of as call-of
 use Rattle.calls.proofs.on_slots.all_closed as all-closed
 use Rattle.calls.proofs.on_frames.unwritten as unwritten
 use Rattle.calls.proofs.on_frames.encode as encode
-use Rattle.calls.proofs.on_frames.encode_closed as encode-closed
 use Rattle.calls.proofs.on_slots.answered as answered
 use Rattle.calls.proofs.call_text.put_answer as put-answer
 
@@ -23,11 +22,7 @@ unwritten-fixed M 𝓤 H 𝓜 𝓖 𝓡 = (unwritten.Met.met 𝓤 H 𝓜 𝓖 �
 
 encode-fixed : Fixed encode.ended (λ M. encode.clauses) encode.Symbol.routine
 encode-fixed M 𝓤 H 𝓜 𝓖 𝓡 =
-    (encode.Met.met 𝓤 H 𝓜 𝓖 𝓡, λ κs a. asks-nothing 𝓤, λ κs a g h r s v w. both (one & one) (one & one) (λ p q. (meet (p .0) (q .0), refl ⨾ meet (p .1) (q .1) ⨾ refl)))
-
-encode-closed-fixed : Fixed encode-closed.ended (λ M. encode-closed.clauses) encode-closed.Symbol.routine
-encode-closed-fixed M 𝓤 H 𝓜 𝓖 𝓡 =
-    (encode-closed.Met.met 𝓤 H 𝓜 𝓖 𝓡, λ κs a. asks-nothing 𝓤, λ κs a g h r s v w. both (one & one) (one & one) (λ p q. (meet (p .0) (q .0), refl ⨾ meet (p .1) (q .1) ⨾ refl)))
+    (encode.Met.met 𝓤 H 𝓜 𝓖 𝓡, λ κs a. asks-nothing 𝓤, λ κs a g h r s v w. both (one & one) (one & one) (λ p q. (meet (p .0) (q .0), refl ⨾ refl ⨾ meet (p .1) (q .1) ⨾ refl)))
 
 put-answer-fixed : Fixed put-answer.ended (λ M. put-answer.clauses) put-answer.Symbol.routine
 put-answer-fixed M 𝓤 H 𝓜 𝓖 𝓡 = (put-answer.Met.met 𝓤 H 𝓜 𝓖 𝓡, λ κs a. asks-nothing 𝓤, λ κs a g h r s v w. both (one & one) (one & one) alike-left)

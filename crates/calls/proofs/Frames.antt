@@ -1,7 +1,7 @@
 -- The same answer and the same places from equal numbers. Assumes nothing.
 use Prim.Native.Nat.{ℕ}
-use mathlib.Core.Path.{_≡_, transport}
-use mathlib.Core.Bool.{Bool}
+use mathlib.Core.Path.{_≡_, sym, transport}
+use mathlib.Core.Bool.{Bool, true, false, cond}
 use mathlib.Core.List.{List}
 use Rattle.refusals.specs.Refusals.{encodeTaken, closedTaken}
 use Rattle.frames.specs.declared.Encoded.{Encoded}
@@ -17,3 +17,11 @@ module _ {x : Encoded} {left lent lent′ : List ℕ} {p p′ r r′ addr addr�
 
   pub same-closed : Leaves x left (closedTaken p) r lent (closedBy r addr cmd) → p ≡ p′ → r ≡ r′ → lent ≡ lent′ → addr ≡ addr′ → cmd ≡ cmd′ → Leaves x left (closedTaken p′) r′ lent′ (closedBy r′ addr′ cmd′)
   same-closed h p r l a c = transport (λ i. Leaves x left (closedTaken (p i)) (r i) (l i) (closedBy (r i) (a i) (c i))) h
+
+-- the frame that the call's number picks
+module _ {x : Encoded} {left : List ℕ} (rate : ℕ) (lent : List ℕ) (closed taken : Bool) (frame frame′ : List ℕ) (t : Bool) where
+  pub at-closed : t ≡ true → Leaves x left closed rate lent frame → Leaves x left (cond t closed taken) rate lent (cond t frame frame′)
+  at-closed e h = transport (λ i. Leaves x left (cond (sym e i) closed taken) rate lent (cond (sym e i) frame frame′)) h
+
+  pub at-encode : t ≡ false → Leaves x left taken rate lent frame′ → Leaves x left (cond t closed taken) rate lent (cond t frame frame′)
+  at-encode e h = transport (λ i. Leaves x left (cond (sym e i) closed taken) rate lent (cond (sym e i) frame frame′)) h

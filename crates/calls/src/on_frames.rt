@@ -1,12 +1,14 @@
 // The calls on frames: encode PROTOCOL RATE ADDRESS COMMAND START TOGGLE ROOM, and closed PROTOCOL RATE ADDRESS COMMAND ROOM.
 use frames::Encoded;
+use protocols::encoder::encode_by;
+use protocols::encoder::encode_closed_by;
 use text::words::low_8;
 use text::words::low_32;
 ghost use mathlib.Core.Path.{_≡_};
 ghost use mathlib.Core.Bool.{cond};
 ghost use Prim.Native.Nat.{_≤_};
 ghost use lib.Dec.{eqb};
-ghost use Rattle.calls.specs.OnFrames.{mark, marked, unwrittenFrom, encodedAt, leftAt, encodedClosedAt, leftClosedAt};
+ghost use Rattle.calls.specs.OnFrames.{mark, marked, unwrittenFrom, encodedAt, leftAt};
 
 // What a place holds before the call.
 fn mark_of(place: usize) -> u32
@@ -45,28 +47,18 @@ pub fn unwritten(lent: &[u32], from: usize) -> usize
     count
 }
 
-// Marks the places that are lent, and encodes into them.
-pub fn encode(n: &[u64; 8], lent: &mut [u32]) -> Encoded
-    ensures answer { λ r. ⌜ r ≡ encodedAt (now (n .entry)) (now (lent .entry)) ⌝ }
-    ensures left { λ _. ⌜ now (lent .exit) ≡ leftAt (now (n .entry)) (now (lent .entry)) ⌝ }
+// Marks the places that are lent, and encodes into them: for closed the frame with its closing burst.
+pub fn encode(call: usize, n: &[u64; 8], lent: &mut [u32]) -> Encoded
+    ensures answer { λ r. ⌜ r ≡ encodedAt call (now (n .entry)) (now (lent .entry)) ⌝ }
+    ensures left { λ _. ⌜ now (lent .exit) ≡ leftAt call (now (n .entry)) (now (lent .entry)) ⌝ }
 {
     put_marks(lent);
-    protocols::encoder::encode_by(
-        low_32(n[0]),
-        low_32(n[1]),
-        low_8(n[2]),
-        low_8(n[3]),
-        low_8(n[4]),
-        n[5] == 1,
-        lent,
-    )
-}
-
-// The same for the frame with its closing burst.
-pub fn encode_closed(n: &[u64; 8], lent: &mut [u32]) -> Encoded
-    ensures answer { λ r. ⌜ r ≡ encodedClosedAt (now (n .entry)) (now (lent .entry)) ⌝ }
-    ensures left { λ _. ⌜ now (lent .exit) ≡ leftClosedAt (now (n .entry)) (now (lent .entry)) ⌝ }
-{
-    put_marks(lent);
-    protocols::encoder::encode_closed_by(low_32(n[0]), low_32(n[1]), low_8(n[2]), low_8(n[3]), lent)
+    let protocol = low_32(n[0]);
+    let rate = low_32(n[1]);
+    let addr = low_8(n[2]);
+    let cmd = low_8(n[3]);
+    if call == crate::CLOSED {
+        return encode_closed_by(protocol, rate, addr, cmd, lent);
+    }
+    encode_by(protocol, rate, addr, cmd, low_8(n[4]), n[5] == 1, lent)
 }

@@ -144,12 +144,10 @@ fn asked(call: usize, decoder: Decoder, a: u32, b: u32, n: &[u64; 8]) -> Decoder
 fn first_of(first: Report, next: Report) -> Report
     ensures { λ r. ⌜ r ≡ firstOf first next ⌝ }
 {
-    match first {
-        Report::Nothing => next,
-        Report::Command(c) => Report::Command(c),
-        Report::Error(f) => Report::Error(f),
-        Report::Refused(number) => Report::Refused(number),
+    if let Report::Nothing = first {
+        return next;
     }
+    first
 }
 
 // One more poll of a run.

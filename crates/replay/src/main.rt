@@ -11,7 +11,6 @@ use calls::on_slots::answered;
 use libc::STDERR_FILENO;
 use libc::STDIN_FILENO;
 use libc::STDOUT_FILENO;
-use on_frames::put_closed_call;
 use on_frames::put_encode_call;
 use on_spans::put_spans_call;
 use text::put;
@@ -50,11 +49,8 @@ fn put_call_answer(text: &mut [u8], at: usize, call: usize, n: &[u64; 8], parts:
     if (call == calls::SPANS) | (call == calls::MEASURE) {
         return put_spans_call(text, at, call, n);
     }
-    if call == calls::ENCODE {
-        return put_encode_call(text, at, n);
-    }
-    if call == calls::CLOSED {
-        return put_closed_call(text, at, n);
+    if (call == calls::ENCODE) | (call == calls::CLOSED) {
+        return put_encode_call(text, at, call, n);
     }
     put_answer(text, at, parts)
 }
@@ -102,10 +98,7 @@ fn read_line(buf: &mut [u8], start: Input, numbers: &mut [u64; 8]) -> Reading {
     let mut left = u64::MAX;
     while left > 0 {
         input = next(buf, input);
-        if input.is_end {
-            return Reading { line, input };
-        }
-        if input.byte == b'\n' {
+        if input.is_end | (input.byte == b'\n') {
             return Reading { line, input };
         }
         line = text::words::fed(line, numbers, input.byte);

@@ -3,7 +3,6 @@ use answers::as_text::put_phrase;
 use answers::of_encoded;
 use answers::of_unwritten;
 use calls::on_frames::encode;
-use calls::on_frames::encode_closed;
 use calls::on_frames::unwritten;
 use frames::Encoded;
 use frames::written;
@@ -17,20 +16,11 @@ fn put_encoded(text: &mut [u8], at: usize, encoded: Encoded, lent: &[u32]) -> us
     put_phrase(text, at, of_unwritten(unwritten(lent, count)))
 }
 
-// Encodes into a lent slice of so many places.
-pub fn put_encode_call(text: &mut [u8], at: usize, n: &[u64; 8]) -> usize {
+// Encodes into a lent slice of so many places as the last number says.
+pub fn put_encode_call(text: &mut [u8], at: usize, call: usize, n: &[u64; 8]) -> usize {
     let mut places = [0u32; 100];
-    let room = (n[6] % 101) as usize;
-    let lent = &mut places[..room];
-    let encoded = encode(n, lent);
-    put_encoded(text, at, encoded, lent)
-}
-
-// The same for the frame with its closing burst.
-pub fn put_closed_call(text: &mut [u8], at: usize, n: &[u64; 8]) -> usize {
-    let mut places = [0u32; 100];
-    let room = (n[4] % 101) as usize;
-    let lent = &mut places[..room];
-    let encoded = encode_closed(n, lent);
+    let room = if call == calls::CLOSED { n[4] } else { n[6] };
+    let lent = &mut places[..(room % 101) as usize];
+    let encoded = encode(call, n, lent);
     put_encoded(text, at, encoded, lent)
 }

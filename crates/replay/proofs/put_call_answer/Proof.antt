@@ -15,7 +15,4 @@ put-call-answer-spec =
     (λ c. tt)
     (λ c κs. tt)
     (λ c. search needs)
-    (λ c. tt)
-    (λ c κs. tt)
-    (λ c. search needs)
     (λ c. tt))

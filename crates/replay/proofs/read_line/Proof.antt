@@ -13,11 +13,6 @@ abbrev μ-loop : tie.MeasureT-loop
 
 same-length : tie.Need-same-length Inv-loop μ-loop
 same-length c =
-    let buf = c .before .before in
-    buf .buf .given ∙ buf .before .before .before .before .loop .inv
-
-same-length-2 : tie.Need-same-length-2 Inv-loop μ-loop
-same-length-2 c =
     let buf = c .before .before .before .before in
     buf .buf .given ∙ buf .before .before .before .before .loop .inv
 
@@ -36,8 +31,6 @@ read-line-spec =
     (λ c. refl)
     (λ c κs. tt)
     same-length
-    (λ c. tt)
-    same-length-2
     (λ c. tt)
     (λ c κs. tt)
     (λ c. c .before .before .before .before .before .before .before .before .before .loop-test .taken)

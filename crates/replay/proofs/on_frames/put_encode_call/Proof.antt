@@ -11,6 +11,7 @@ put-encode-call-spec =
     (tie.spec
     (λ c. search needs)
     (λ c. search needs)
+    (λ c. search needs)
     (λ c. simp length-take (omega arith))
     (λ c κs. tt)
     (λ c κs. tt)
