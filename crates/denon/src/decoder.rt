@@ -1,4 +1,4 @@
-// Document 01, "Decoder steps", Denon. The work is over lent span ends and the memory, wherever the spans are kept.
+// Document 01, "Decoder steps", Denon. The work is over lent spans and the memory, wherever the spans are kept.
 use commands::Command;
 use commands::denon::DenonCommand;
 use reports::Report;
@@ -271,18 +271,11 @@ impl DenonDecoder {
     pub fn event(self, rising: bool, duration: u32) -> DenonEvent
         ensures { λ r. ⌜ r ≡ eventOf (self .spans) (event machine (self .spans) (self .memory) (edge rising duration)) ⌝ }
     {
-        let spans = self.spans;
-        let event = event_in(
-            &spans.base,
-            &spans.low,
-            &spans.high,
-            self.memory,
-            rising,
-            duration,
-        );
+        let s = self.spans;
+        let event = event_in(&s.base, &s.low, &s.high, self.memory, rising, duration);
         let status = event.status;
         let memory = event.memory;
-        let spans = spans::again(spans);
+        let spans = spans::again(s);
         let decoder = DenonDecoder { spans, memory };
         DenonEvent { status, decoder }
     }
@@ -305,18 +298,11 @@ impl DenonDecoder {
     pub fn event_total(self, rising: bool, duration: u32) -> DenonTotal
         ensures { λ r. ⌜ r ≡ totalOf (self .spans) (total machine (self .spans) (self .memory) (edge rising duration)) ⌝ }
     {
-        let spans = self.spans;
-        let total = total_in(
-            &spans.base,
-            &spans.low,
-            &spans.high,
-            self.memory,
-            rising,
-            duration,
-        );
+        let s = self.spans;
+        let total = total_in(&s.base, &s.low, &s.high, self.memory, rising, duration);
         let report = total.report;
         let memory = total.memory;
-        let spans = spans::again(spans);
+        let spans = spans::again(s);
         let decoder = DenonDecoder { spans, memory };
         DenonTotal { report, decoder }
     }

@@ -1,4 +1,4 @@
-// Document 01, "Decoder steps", NEC. The work is over lent span ends and the memory, wherever the spans are kept.
+// Document 01, "Decoder steps", NEC. The work is over lent spans and the memory, wherever the spans are kept.
 use commands::Command;
 use commands::nec::NecCommand;
 use reports::Fault;
@@ -204,7 +204,6 @@ fn save(m: NecMemory, duration: u32) -> NecEventIn
     }
 }
 
-// What a new decoder remembers.
 pub fn fresh() -> NecMemory
     ensures { λ r. ⌜ r ≡ machine .fresh ⌝ }
 {
@@ -312,18 +311,11 @@ impl NecDecoder {
     pub fn event(self, rising: bool, duration: u32) -> NecEvent
         ensures { λ r. ⌜ r ≡ eventOf (self .spans) (event machine (self .spans) (self .memory) (edge rising duration)) ⌝ }
     {
-        let spans = self.spans;
-        let event = event_in(
-            &spans.base,
-            &spans.low,
-            &spans.high,
-            self.memory,
-            rising,
-            duration,
-        );
+        let s = self.spans;
+        let event = event_in(&s.base, &s.low, &s.high, self.memory, rising, duration);
         let status = event.status;
         let memory = event.memory;
-        let spans = spans::again(spans);
+        let spans = spans::again(s);
         let decoder = NecDecoder { spans, memory };
         NecEvent { status, decoder }
     }
@@ -346,18 +338,11 @@ impl NecDecoder {
     pub fn event_total(self, rising: bool, duration: u32) -> NecTotal
         ensures { λ r. ⌜ r ≡ totalOf (self .spans) (total machine (self .spans) (self .memory) (edge rising duration)) ⌝ }
     {
-        let spans = self.spans;
-        let total = total_in(
-            &spans.base,
-            &spans.low,
-            &spans.high,
-            self.memory,
-            rising,
-            duration,
-        );
+        let s = self.spans;
+        let total = total_in(&s.base, &s.low, &s.high, self.memory, rising, duration);
         let report = total.report;
         let memory = total.memory;
-        let spans = spans::again(spans);
+        let spans = spans::again(s);
         let decoder = NecDecoder { spans, memory };
         NecTotal { report, decoder }
     }

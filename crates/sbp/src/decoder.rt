@@ -1,4 +1,4 @@
-// Document 01, "Decoder steps", SBP. The work is over lent span ends and the memory, wherever the spans are kept.
+// Document 01, "Decoder steps", SBP. The work is over lent spans and the memory, wherever the spans are kept.
 use commands::Command;
 use commands::sbp::SbpCommand;
 use reports::Fault;
@@ -375,19 +375,12 @@ impl SbpDecoder {
     pub fn event(self, rising: bool, duration: u32) -> SbpEvent
         ensures { λ r. ⌜ r ≡ eventOf (self .spans) (event machine (self .spans) (self .memory) (edge rising duration)) ⌝ }
     {
-        let spans = self.spans;
+        let s = self.spans;
         let memory = self.memory;
-        let event = event_in(
-            &spans.base,
-            &spans.low,
-            &spans.high,
-            memory,
-            rising,
-            duration,
-        );
+        let event = event_in(&s.base, &s.low, &s.high, memory, rising, duration);
         let status = event.status;
         let memory = event.memory;
-        let spans = spans::again(spans);
+        let spans = spans::again(s);
         let decoder = SbpDecoder { spans, memory };
         SbpEvent { status, decoder }
     }
@@ -410,19 +403,12 @@ impl SbpDecoder {
     pub fn event_total(self, rising: bool, duration: u32) -> SbpTotal
         ensures { λ r. ⌜ r ≡ totalOf (self .spans) (total machine (self .spans) (self .memory) (edge rising duration)) ⌝ }
     {
-        let spans = self.spans;
+        let s = self.spans;
         let memory = self.memory;
-        let total = total_in(
-            &spans.base,
-            &spans.low,
-            &spans.high,
-            memory,
-            rising,
-            duration,
-        );
+        let total = total_in(&s.base, &s.low, &s.high, memory, rising, duration);
         let report = total.report;
         let memory = total.memory;
-        let spans = spans::again(spans);
+        let spans = spans::again(s);
         let decoder = SbpDecoder { spans, memory };
         SbpTotal { report, decoder }
     }

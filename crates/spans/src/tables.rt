@@ -19,7 +19,7 @@ fn rc6_length(place: usize) -> u32
 
 // In microseconds.
 pub fn length_at(protocol: u32, place: usize) -> u32
-    requires { ⌜ (1 ≤ protocol) × (protocol ≤ 5) × (place < 8) ⌝ }
+    requires { ⌜ (1 ≤ protocol) × (protocol ≤ 5) ⌝ }
     ensures { λ r. ⌜ r ≡ lengthAt protocol place ⌝ }
 {
     match protocol {
