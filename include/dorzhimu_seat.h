@@ -70,9 +70,11 @@
  * tested on emulated ones (seat_test/emulated; docs/PROMISES.md, 'What is
  * assumed').
  *
- * All functions end, keep nothing between calls, have no data of their own and
- * call no function of the caller's, so they may be called from several threads
- * at once. They take less than 320 bytes of stack (measured, not proved).
+ * All functions end, keep nothing between calls, have no data but constants (160
+ * bytes on the small processors) and call no function of the caller's, so they
+ * may be called from several threads at once. They take at most 140 bytes of
+ * stack on the small processors (measured), and less than 250 on x86-64 with the
+ * red zone (read off the code); that is not proved.
  */
 
 #ifndef DORZHIMU_SEAT_H
@@ -235,8 +237,8 @@ uint32_t seat_encode_closed(uint32_t protocol, uint32_t rate,
  *
  * A refused call writes nothing: `*place` is as it was.
  *
- * Each call computes the eight spans anew. All of it takes up to 950 instructions
- * on a Cortex-M0 and 600 on a Cortex-M4 (counted, not proved).
+ * Each call computes the eight spans anew. At 1 MHz all of it takes up to 400
+ * instructions on a Cortex-M0 and 280 on a Cortex-M4 (counted, not proved).
  *
  * \param protocol   protocol number, `SEAT_NEC` to `SEAT_DENON`.
  * \param rate       ticks a second, 1 to `SEAT_LAST_RATE`.

@@ -1,6 +1,5 @@
 // What a call answers, and spans, put into a lent slice: each function takes the place where its text starts, and answers the next one.
 use crate::Phrase;
-use crate::before_difference;
 use crate::of_found;
 use spans::Found;
 use spans::Spans;
@@ -42,7 +41,11 @@ pub fn put_measured(text: &mut [u8], at: usize, found: Found) -> usize
     let next = put_phrase(text, at, of_found(found));
     match found {
         Found::At(measured) => {
-            let next = put_phrase(text, next, before_difference());
+            let next = put_phrase(
+                text,
+                next,
+                crate::text(crate::DIFFERENCE, crate::DIFFERENCE_REST),
+            );
             put_signed(text, next, measured.difference)
         }
         Found::None => next,

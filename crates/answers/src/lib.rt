@@ -10,7 +10,7 @@ use reports::status_numbers;
 use spans::Answer;
 use spans::Found;
 ghost use mathlib.Core.Path.{_≡_};
-ghost use Rattle.answers.specs.Answers.{textOf, withOf, withTwo, refusedPhrase, faultPhrase, nameOf, statusBy, statusPhrase, reportBy, reportPhrase, answerPhrase, foundPhrase, differencePhrase, encodedPhrase, unwrittenPhrase, edgePhrase, boundsPhrase, notOpen, notUnderstood, isTaken};
+ghost use Rattle.answers.specs.Answers.{textOf, withOf, withTwo, refusedPhrase, faultPhrase, nameOf, statusBy, statusPhrase, reportBy, reportPhrase, answerPhrase, foundPhrase, encodedPhrase, unwrittenPhrase, edgePhrase, boundsPhrase, notOpen, notUnderstood, isTaken};
 
 // The characters are digits of base 256: the first eight, and the rest.
 pub struct Phrase {
@@ -211,13 +211,6 @@ pub fn of_found(found: Found) -> Phrase
         Found::At(measured) => with(PLACE, 0, measured.place as u64),
         Found::None => text(NONE, 0),
     }
-}
-
-// After a place: a difference follows.
-fn before_difference() -> Phrase
-    ensures { λ r. ⌜ r ≡ differencePhrase ⌝ }
-{
-    text(DIFFERENCE, DIFFERENCE_REST)
 }
 
 pub fn of_encoded(encoded: Encoded) -> Phrase

@@ -1,7 +1,7 @@
 -- What each call on a decoder answers, from what is asked of it. Assumes nothing.
 use Prim.Native.Nat.{ℕ}
 use mathlib.Core.Path.{_≡_, refl, sym, ap, _∙_}
-use mathlib.Core.Bool.{Bool, true, false, cond}
+use mathlib.Core.Bool.{Bool, true, false}
 use mathlib.Core.List.{List}
 use lib.Dec.{eqb}
 use Rattle.reports.specs.declared.Report.{Report}
@@ -14,9 +14,10 @@ use Rattle.answers.specs.Answers.{statusPhrase, reportPhrase}
 use Rattle.answers.specs.declared.Phrase.{Phrase}
 use Rattle.calls.specs.Parts.{headed}
 use Rattle.calls.specs.Send.{sendAt}
-use Rattle.calls.specs.Slots.{answering, eventAt, totalAt, edgeAt, commandAt, resetAt, counterAt, askedAt}
+use Rattle.calls.specs.Slots.{answering, eventAt, totalAt, edgeAt, edgeBy, commandAt, resetAt, counterAt, askedAt}
 use Rattle.calls.specs.declared.on_slots.Parts.{Parts}
 use Rattle.calls.specs.declared.slots.DecoderAnswer.{DecoderAnswer}
+use Rattle.calls.proofs.Made.{picked, passed}
 
 abbrev made : Parts → Decoder → DecoderAnswer
 made parts decoder = record { parts = parts; decoder = decoder }
@@ -45,19 +46,26 @@ module _ (d : Decoder) (rising : Bool) (duration : ℕ) where
 pub command-is : (d : Decoder) {report : Report} {phrase : Phrase} {x : DecoderAnswer} → report ≡ machine .command (d .memory) → phrase ≡ reportPhrase report → x ≡ answering phrase d → x ≡ commandAt d
 command-is d r p h = answers h (p ∙ ap (λ (x : Report). reportPhrase x) r) refl
 
--- the answer that the call's number picks
+-- the answer that the call's number picks, of those that hand over an edge
+module _ (call : ℕ) (d : Decoder) (rising : Bool) (duration : ℕ) {x : DecoderAnswer} where
+  pub by-total : eqb call 5 ≡ true → x ≡ totalAt d rising duration → x ≡ edgeBy call d rising duration
+  unfolding edgeBy
+  by-total t h = picked _ _ _ _ t h
+
+  module _ (not-total : eqb call 5 ≡ false) where
+    pub by-event : eqb call 4 ≡ true → x ≡ eventAt d rising duration → x ≡ edgeBy call d rising duration
+    unfolding edgeBy
+    by-event t h = passed _ _ _ _ not-total (picked _ _ _ _ t h)
+
+    pub by-edge : eqb call 4 ≡ false → x ≡ edgeAt d rising duration → x ≡ edgeBy call d rising duration
+    unfolding edgeBy
+    by-edge f h = passed _ _ _ _ not-total (passed _ _ _ _ f h)
+
+-- and of all
 module _ (call : ℕ) (d : Decoder) (a b : ℕ) (n : List ℕ) {x : DecoderAnswer} where
-  pub at-event : call ≡ 4 → x ≡ eventAt d (eqb a 1) b → x ≡ askedAt call d a b n
+  pub at-command : call ≡ 7 → x ≡ commandAt d → x ≡ askedAt call d a b n
   unfolding askedAt
-  at-event k h = h ∙ ap (λ (c : ℕ). askedAt c d a b n) (sym k)
-
-  pub at-total : call ≡ 5 → x ≡ totalAt d (eqb a 1) b → x ≡ askedAt call d a b n
-  unfolding askedAt
-  at-total k h = h ∙ ap (λ (c : ℕ). askedAt c d a b n) (sym k)
-
-  pub at-edge : call ≡ 6 → x ≡ edgeAt d (eqb a 1) b → x ≡ askedAt call d a b n
-  unfolding askedAt
-  at-edge k h = h ∙ ap (λ (c : ℕ). askedAt c d a b n) (sym k)
+  at-command k h = h ∙ ap (λ (c : ℕ). askedAt c d a b n) (sym k)
 
   pub at-reset : call ≡ 8 → x ≡ resetAt d → x ≡ askedAt call d a b n
   unfolding askedAt
@@ -71,12 +79,6 @@ module _ (call : ℕ) (d : Decoder) (a b : ℕ) (n : List ℕ) {x : DecoderAnswe
   unfolding askedAt
   at-send k h = h ∙ ap (λ (c : ℕ). askedAt c d a b n) (sym k)
 
--- the last of some answers, where no test holds
-none : {A : Type 0} (s t u v w x : Bool) (a b c d e f z : A) → s ≡ false → t ≡ false → u ≡ false → v ≡ false → w ≡ false → x ≡ false → z ≡ cond s a (cond t b (cond u c (cond v d (cond w e (cond x f z)))))
-none s t u v w x a b c d e f z h i j k l m = simp (h, i, j, k, l, m)
-
-pub at-command
-    : (call : ℕ) (d : Decoder) (a b : ℕ) (n : List ℕ) {x : DecoderAnswer} → eqb call 4 ≡ false → eqb call 5 ≡ false → eqb call 6 ≡ false → eqb call 8 ≡ false → eqb call 12 ≡ false → eqb call 14 ≡ false
-    → x ≡ commandAt d → x ≡ askedAt call d a b n
-unfolding askedAt
-at-command call d a b n h i j k l m e = e ∙ none _ _ _ _ _ _ _ _ _ _ _ _ _ h i j k l m
+  pub at-edge : eqb call 7 ≡ false → eqb call 8 ≡ false → eqb call 12 ≡ false → eqb call 14 ≡ false → x ≡ edgeBy call d (eqb a 1) b → x ≡ askedAt call d a b n
+  unfolding askedAt
+  at-edge e f g h k = passed _ _ _ _ e (passed _ _ _ _ f (passed _ _ _ _ g (passed _ _ _ _ h k)))

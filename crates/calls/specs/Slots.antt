@@ -67,13 +67,15 @@ resetAt d = answering (textOf (word ("r" ∷ "e" ∷ "s" ∷ "e" ∷ "t" ∷ [])
 abbrev pub counterAt : Decoder → Bool → ℕ → DecoderAnswer
 counterAt d last number = answering (textOf (word ("c" ∷ "o" ∷ "u" ∷ "n" ∷ "t" ∷ "e" ∷ "r" ∷ [])) 0) (counting d last number)
 
--- event, total, edge, reset, counter, send, and command; the numbers a and b are those after the slot's
+-- event, total, and edge
+unfoldable pub edgeBy : ℕ → Decoder → Bool → ℕ → DecoderAnswer
+edgeBy call d rising duration = cond (eqb call 5) (totalAt d rising duration) (cond (eqb call 4) (eventAt d rising duration) (edgeAt d rising duration))
+
+-- command, reset, counter, send, and those that hand it an edge; the numbers a and b are those after the slot's
 unfoldable pub askedAt : ℕ → Decoder → ℕ → ℕ → List ℕ → DecoderAnswer
 askedAt call d a b n =
-    cond (eqb call 4) (eventAt d (eqb a 1) b)
-    (cond (eqb call 5) (totalAt d (eqb a 1) b)
-    (cond (eqb call 6) (edgeAt d (eqb a 1) b)
-    (cond (eqb call 8) (resetAt d) (cond (eqb call 12) (counterAt d (eqb a 1) b) (cond (eqb call 14) (sendAt d n) (commandAt d))))))
+    cond (eqb call 7) (commandAt d)
+    (cond (eqb call 8) (resetAt d) (cond (eqb call 12) (counterAt d (eqb a 1) b) (cond (eqb call 14) (sendAt d n) (edgeBy call d (eqb a 1) b))))
 
 abbrev pub firstOf : Report → Report → Report
 firstOf report.Nothing next = next

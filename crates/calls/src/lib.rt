@@ -26,7 +26,7 @@ pub const EVENT: usize = 4;
 
 pub const TOTAL: usize = 5;
 
-pub const EDGE: usize = 6;
+pub const COMMAND: usize = 7;
 
 pub const RESET: usize = 8;
 

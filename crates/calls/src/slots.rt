@@ -18,7 +18,7 @@ use text::words::low_32;
 ghost use mathlib.Core.Path.{_≡_};
 ghost use Rattle.polled.specs.Polled.{polledAt};
 ghost use Rattle.calls.specs.Parts.{alone, headed};
-ghost use Rattle.calls.specs.Slots.{answering, heldBy, openedBy, edgeAt, askedAt, firstOf, polledAgain, pollsAt, heldAt, calledOn};
+ghost use Rattle.calls.specs.Slots.{answering, heldBy, openedBy, edgeBy, askedAt, firstOf, polledAgain, pollsAt, heldAt, calledOn};
 
 // What a call on a decoder answers, and the decoder after it.
 pub struct DecoderAnswer {
@@ -95,16 +95,23 @@ fn opened(slot: Slot, protocol: u32, rate: u32) -> SlotAnswer
     SlotAnswer { slot, parts }
 }
 
-// The status of the step, the command after it, and what event_total reports: the decoder goes on as after that.
-fn edge(decoder: Decoder, rising: bool, duration: u32) -> DecoderAnswer
-    ensures { λ r. ⌜ r ≡ edgeAt decoder rising duration ⌝ }
+// A call that hands an edge to a decoder. event answers the status of the step, and total what event_total reports. edge answers both, with the command
+// after the step between them: the decoder goes on as after event_total.
+fn edge(call: usize, decoder: Decoder, rising: bool, duration: u32) -> DecoderAnswer
+    ensures { λ r. ⌜ r ≡ edgeBy call decoder rising duration ⌝ }
 {
-    let e = decoder.event(rising, duration);
-    let status = e.status;
-    let stepped = e.decoder;
     let t = decoder.event_total(rising, duration);
     let report = t.report;
     let after = t.decoder;
+    if call == crate::TOTAL {
+        return said(of_report(report), after);
+    }
+    let e = decoder.event(rising, duration);
+    let status = e.status;
+    let stepped = e.decoder;
+    if call == crate::EVENT {
+        return said(of_status(status), stepped);
+    }
     let parts = headed(
         of_status(status),
         of_report(stepped.command()),
@@ -121,23 +128,11 @@ fn asked(call: usize, decoder: Decoder, a: u32, b: u32, n: &[u64; 8]) -> Decoder
     ensures { λ r. ⌜ r ≡ askedAt call decoder a b (now (n .entry)) ⌝ }
 {
     match call {
-        crate::EVENT => {
-            let e = decoder.event(a == 1, b);
-            let status = e.status;
-            let decoder = e.decoder;
-            said(of_status(status), decoder)
-        }
-        crate::TOTAL => {
-            let t = decoder.event_total(a == 1, b);
-            let report = t.report;
-            let decoder = t.decoder;
-            said(of_report(report), decoder)
-        }
-        crate::EDGE => edge(decoder, a == 1, b),
+        crate::COMMAND => said(of_report(decoder.command()), decoder),
         crate::RESET => said(text(answers::RESET, 0), decoder.reset()),
         crate::COUNTER => said(text(answers::COUNTER, 0), counting(decoder, a == 1, b)),
         crate::SEND => send(decoder, n),
-        _ => said(of_report(decoder.command()), decoder),
+        _ => edge(call, decoder, a == 1, b),
     }
 }
 

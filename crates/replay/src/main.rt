@@ -107,11 +107,6 @@ fn read_line(buf: &mut [u8], start: Input, numbers: &mut [u64; 8]) -> Reading {
     Reading { line, input }
 }
 
-// Nothing is left to answer; a last line may lack its newline.
-fn is_over(line: Line, is_end: bool) -> bool {
-    is_end & !is_begun(line)
-}
-
 // To the end of the input, or until the output takes no more.
 fn read_all(text: &mut [u8], numbers: &mut [u64; 8], buf: &mut [u8]) -> usize {
     let mut at: usize = 0;
@@ -127,7 +122,8 @@ fn read_all(text: &mut [u8], numbers: &mut [u64; 8], buf: &mut [u8]) -> usize {
         let reading = read_line(buf, input, numbers);
         let line = reading.line;
         input = reading.input;
-        if is_over(line, input.is_end) {
+        // A last line may lack its newline.
+        if input.is_end & !is_begun(line) {
             return at;
         }
         let call = call_of(line, numbers);

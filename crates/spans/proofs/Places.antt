@@ -96,7 +96,7 @@ abbrev pub NoneBelow : ℕ → ℕ → Type 0
 NoneBelow zero k = Unit
 NoneBelow (suc n) k = NoneBelow n k × (k ≡ n → ⊥)
 
-pub none-below : (n k : ℕ) → NoneBelow n k → n ≤ k
+none-below : (n k : ℕ) → NoneBelow n k → n ≤ k
 none-below zero k h = omega arith
 none-below (suc n) k (h, ne) = omega (arith, none-below n k h, ne)
 

@@ -4,7 +4,7 @@ mod tables;
 ghost use mathlib.Core.Path.{_≡_};
 ghost use Prim.Native.Nat.{_*_, _/_, _<_, _≤_};
 ghost use lib.ListN.{length};
-ghost use Rattle.spans.specs.Spans.{baseOf, spanAt, spansAt, spansOf, refused, columns};
+ghost use Rattle.spans.specs.Spans.{baseOf, spanOf, spansAt, spansOf, refused, columns};
 ghost use Rattle.spans.specs.Lookup.{foundAt, lookupOf, placeOf};
 
 pub struct Span {
@@ -60,13 +60,13 @@ fn margin(base: u32, percent: u32) -> u32
     quarter * 10486 - (quarter >> 2) + 4096 >> 18
 }
 
-// The span at a protocol's place, both ends included.
-fn span_at(protocol: u32, rate: u32, place: usize) -> Span
-    requires { ⌜ (1 ≤ protocol) × (protocol ≤ 5) × (rate ≤ 9673349) × (place < 8) ⌝ }
-    ensures { λ r. ⌜ r ≡ spanAt protocol rate place ⌝ }
+// The span of a length at a rate, both ends included.
+fn span_of(length: u32, percent: u32, rate: u32) -> Span
+    requires { ⌜ (length ≤ 13500) × (percent ≤ 12) × (rate ≤ 9673349) ⌝ }
+    ensures { λ r. ⌜ r ≡ spanOf (baseOf length rate) percent ⌝ }
 {
-    let base = base(tables::length_at(protocol, place), rate);
-    let margin = margin(base, tables::percent_at(protocol, place));
+    let base = base(length, rate);
+    let margin = margin(base, percent);
     Span {
         base,
         low: base - margin,
@@ -78,14 +78,16 @@ fn spans_at(protocol: u32, rate: u32) -> Spans
     requires { ⌜ (1 ≤ protocol) × (protocol ≤ 5) × (rate ≤ 9673349) ⌝ }
     ensures { λ r. ⌜ r ≡ spansAt protocol rate ⌝ }
 {
-    let a = span_at(protocol, rate, 0);
-    let b = span_at(protocol, rate, 1);
-    let c = span_at(protocol, rate, 2);
-    let d = span_at(protocol, rate, 3);
-    let e = span_at(protocol, rate, 4);
-    let f = span_at(protocol, rate, 5);
-    let g = span_at(protocol, rate, 6);
-    let h = span_at(protocol, rate, 7);
+    let lengths = tables::lengths_of(protocol);
+    let percents = tables::percents_of(protocol);
+    let a = span_of(lengths[0], percents[0], rate);
+    let b = span_of(lengths[1], percents[1], rate);
+    let c = span_of(lengths[2], percents[2], rate);
+    let d = span_of(lengths[3], percents[3], rate);
+    let e = span_of(lengths[4], percents[4], rate);
+    let f = span_of(lengths[5], percents[5], rate);
+    let g = span_of(lengths[6], percents[6], rate);
+    let h = span_of(lengths[7], percents[7], rate);
     Spans {
         base: [
             a.base,

@@ -52,13 +52,9 @@ digitsOf (suc n) power x = digitAt x power ∷ digitsOf n (power / 10) x
 unfoldable pub decimal : ℕ → List ℕ
 decimal x = digitsOf 20 (10 ^ 19) x
 
--- a minus where a number is negative
-abbrev pub signOf : ℤ → ℕ
-signOf x = cond (nonNeg x) 0 (code "-")
-
--- a number of either sign in decimal
+-- a number of either sign in decimal: where it is negative, a minus comes first
 unfoldable pub signedDecimal : ℤ → List ℕ
-signedDecimal x = signOf x ∷ decimal (natAbs x)
+signedDecimal x = cond (nonNeg x) (decimal (natAbs x)) (code "-" ∷ decimal (natAbs x))
 
 -- a number after a blank, where it is to be put
 unfoldable pub nextText : Bool → ℕ → List ℕ

@@ -2,8 +2,7 @@
 pub mod words;
 
 ghost use mathlib.Core.Path.{_≡_};
-ghost use lib.IntN.{natAbs};
-ghost use Rattle.text.specs.Text.{putOf, putsOf, firstLetter, otherLetters, letters, digitAt, decimal, signOf, signedDecimal, nextText, numbersText};
+ghost use Rattle.text.specs.Text.{putOf, putsOf, firstLetter, otherLetters, letters, digitAt, decimal, signedDecimal, nextText, numbersText};
 
 // A character, where there is room; 0 is none.
 pub fn put(text: &mut [u8], at: usize, b: u8) -> usize
@@ -78,29 +77,16 @@ pub fn put_number(text: &mut [u8], at: usize, x: u64) -> usize
     next
 }
 
-// A number without its sign. The lowest has no negative of 64 bits, so one is added at the end.
-fn magnitude(x: i64) -> u64
-    ensures { λ r. ⌜ r ≡ natAbs x ⌝ }
-{
-    if x < 0 {
-        return (-1 - x) as u64 + 1;
-    }
-    x as u64
-}
-
-fn sign(x: i64) -> u8
-    ensures { λ r. ⌜ r ≡ signOf x ⌝ }
-{
-    if x < 0 { b'-' } else { 0 }
-}
-
-// A number in decimal, after a minus where it is negative.
+// A number of either sign in decimal. The lowest has no negative of 64 bits, so one is added at the end.
 pub fn put_signed(text: &mut [u8], at: usize, x: i64) -> usize
     ensures next { λ r. ⌜ r ≡ putsOf (now (text .entry)) at (signedDecimal x) .1 ⌝ }
     ensures left { λ _. ⌜ now (text .exit) ≡ putsOf (now (text .entry)) at (signedDecimal x) .0 ⌝ }
 {
-    let next = put(text, at, sign(x));
-    put_number(text, next, magnitude(x))
+    if x < 0 {
+        let next = put(text, at, b'-');
+        return put_number(text, next, (-1 - x) as u64 + 1);
+    }
+    put_number(text, at, x as u64)
 }
 
 // A number after a blank, where it is to be put.

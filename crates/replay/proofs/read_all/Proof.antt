@@ -13,37 +13,37 @@ abbrev μ-loop : tie.MeasureT-loop
 
 same-length-2 : tie.Need-same-length-2 Inv-loop μ-loop
 same-length-2 c =
-    let buf = c .before .before .before .before .before in
+    let buf = c .before .before .before .before .before .before in
     buf .buf .given ∙ buf .before .before .before .before .before .loop .inv .1
 
 same-length-3 : tie.Need-same-length-3 Inv-loop μ-loop
 same-length-3 c =
     let text = c .before .before .before in
-    let buf = text .before .before .before .before .before .before .before .before .before .before .before .before .before .before in
+    let buf = text .before .before .before .before .before .before .before .before .before .before .before .before .before .before .before in
     text .text .given ∙ buf .before .before .before .before .before .loop .inv .0
 
 same-length-4 : tie.Need-same-length-4 Inv-loop μ-loop
 same-length-4 c =
     let text = c .before .before .before in
-    let buf = text .before .before .before .before .before .before .before .before .before .before .before .before .before .before in
+    let buf = text .before .before .before .before .before .before .before .before .before .before .before .before .before .before .before in
     buf .buf .given ∙ buf .before .before .before .before .before .loop .inv .1
 
 sub-left : tie.Need-sub-left Inv-loop μ-loop
 sub-left c =
     let text = c .before .before .before in
-    let buf = text .before .before .before .before .before .before .before .before .before .before .before .before .before .before in
+    let buf = text .before .before .before .before .before .before .before .before .before .before .before .before .before .before .before in
     buf .before .before .before .before .loop-test .taken
 
 loop-less : tie.Need-loop-less Inv-loop μ-loop
 loop-less c =
     let text = c .before .before .before in
-    let buf = text .before .before .before .before .before .before .before .before .before .before .before .before .before .before in
+    let buf = text .before .before .before .before .before .before .before .before .before .before .before .before .before .before .before in
     less _ (buf .before .before .before .before .loop-test .taken)
 
 loop-again : tie.Need-loop-again Inv-loop μ-loop
 loop-again c =
     let text = c .before .before .before in
-    let buf = text .before .before .before .before .before .before .before .before .before .before .before .before .before .before in
+    let buf = text .before .before .before .before .before .before .before .before .before .before .before .before .before .before .before in
     let loop = buf .before .before .before .before .before .loop in
     (text .text .given ∙ loop .inv .0, buf .buf .given ∙ loop .inv .1)
 
@@ -57,7 +57,7 @@ read-all-spec =
     (λ c. (refl, refl))
     (λ c κs. tt)
     (λ c κs. tt)
-    (λ c. c .before .before .before .before .before .before .before .before .before .before .loop .inv .0)
+    (λ c. c .before .before .before .before .before .before .before .before .before .before .before .loop .inv .0)
     same-length-2
     (λ c. tt)
     (λ c κs. tt)

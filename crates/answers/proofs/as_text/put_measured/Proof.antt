@@ -32,7 +32,7 @@ returns c =
     let place = found .before .before .before .before in
     let read = toZ-ofZ {w = w64} (record { sfits = told .struct-told .given .1 .0 .1 }) in
     same _ _ _ _ _ _
-    ((λ i. phraseText (place .before .of-found .ensures i) ++ phraseText (difference .before .before-difference .ensures i) ++ signedDecimal (read i))
+    ((λ i. phraseText (place .before .of-found .ensures i) ++ phraseText (difference .before .text2 .ensures i) ++ signedDecimal (read i))
     ∙ place-and-difference _ _ (found .found .given .1))
     (two _ _ _ _ _ _ _ _ (two _ _ _ _ _ _ _ _ (place .put-phrase .ensures) (difference .put-phrase2 .ensures)) (signed .put-signed .ensures))
 
