@@ -20,7 +20,8 @@ const PERCENTS: [[u32; 8]; 5] = [
     [8, 10, 10, 0, 0, 0, 0, 0],
 ];
 
-// The row of a protocol. Each arm names its row by a constant: a table that is indexed by a variable is laid out on the stack.
+// The row of a protocol. Each arm names its row by a constant, and each table has a function of its own, which the compiler puts in line: a table that is
+// indexed by a variable, or handed over, is laid out on the stack.
 pub fn lengths_of(protocol: u32) -> [u32; 8]
     requires { ⌜ (1 ≤ protocol) × (protocol ≤ 5) ⌝ }
     ensures { λ r. ⌜ r ≡ rowOf lengths protocol ⌝ }
