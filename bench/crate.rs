@@ -81,10 +81,17 @@ where
     let mut sum: u64 = 0;
     let mut rising = true;
     for &duration in durations {
-        sum = add(sum, decoder.event_total(rising, duration));
+        sum = add(sum, event_total::<P>(&mut decoder, rising, duration));
         rising = !rising;
     }
     sum
+}
+
+/// Kept out of line with the option `called`.
+#[cfg(not(polls))]
+#[cfg_attr(called, inline(never))]
+fn event_total<P: DecoderFactory<u32>>(decoder: &mut P::Decoder, rising: bool, duration: u32) -> Result<Option<P::Cmd>, DecodingError> {
+    decoder.event_total(rising, duration)
 }
 
 #[cfg(polls)]

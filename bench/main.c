@@ -1,6 +1,7 @@
 /* The driver of bench/run: makes edges, commands or levels and hands them to one side.
  *   main SIDE KIND PROTOCOL COUNT
- * SIDE is ours, crate, or for polls typed: ours, with the protocol's own receiver. KIND is frames or noise: edges, at 1 MHz, the first one rising; build: decoders, handed no edge; encode: commands; quiet, changing or polled: levels, at 40 kHz, that
+ * SIDE is ours or crate; for polls also typed: ours, with the protocol's own receiver; for edges also batch or typedbatch: ours by the handful, with the batch by number or the
+ * protocol's own. KIND is frames or noise: edges, at 1 MHz, the first one rising; build: decoders, handed no edge; encode: commands; quiet, changing or polled: levels, at 40 kHz, that
  * never change, change at each poll, or are those of the frames. COUNT is how many of them are handed over; prints the number that the reports, or the lengths of the
  * encoded frames, come to. Both sides get the same. All is made whatever the COUNT, so that between two COUNTs only the work differs.
  *   main SIDE KIND PROTOCOL stack
@@ -18,15 +19,20 @@
 #define RATE 1000000
 #define POLL 25 /* ticks between polls */
 #define FRAME 67
+#define BATCH 3  /* the side from which on edges go by the handful */
+#define PLACES 8 /* for the answers of a batch */
 
 typedef uint64_t run_edges(const uint32_t *durations, size_t count, uint32_t rate);
-
+typedef uint64_t run_batches(const bool *rising, size_t rises, const uint32_t *durations, size_t count, size_t *edges, size_t edge_places, uint32_t *kinds, size_t kind_places,
+                             uint64_t *values, size_t value_places, uint32_t protocol, uint32_t rate);
 typedef uint64_t run_polls(const uint8_t *levels, size_t count, uint32_t protocol, uint32_t rate);
 typedef size_t encode_frame(uint8_t addr, uint8_t cmd, uint8_t start, bool toggle, uint32_t rate, uint32_t *frame, size_t room);
 
 run_polls bench_polls;
+run_batches bench_batches;
 #define SIDES(name) \
     run_edges bench_##name, crate_##name; \
+    run_batches bench_batch_##name; \
     run_polls bench_typed_##name, crate_polls_##name; \
     encode_frame bench_encode_##name, crate_encode_##name; \
     extern const size_t crate_record_##name, crate_polled_record_##name;
@@ -34,6 +40,7 @@ SIDES(nec) SIDES(rc5) SIDES(rc6) SIDES(sbp) SIDES(denon)
 
 static uint32_t edges[ROOM + 256];
 static size_t made;
+static bool rising[ROOM];
 static uint8_t levels[ROOM];
 static struct command {
     uint8_t addr, cmd, start;
@@ -110,12 +117,13 @@ struct row {
     const char *name;
     run_edges *edges[2]; /* ours, the crate's */
     run_polls *polls[3]; /* and typed */
+    run_batches *batches[2]; /* by number, typed */
     const size_t *record, *polled_record; /* the crate's */
     encode_frame *encode[2];
     void (*frame)(void);
 };
 
-#define RUNS(name) #name, {bench_##name, crate_##name}, {bench_polls, crate_polls_##name, bench_typed_##name}, &crate_record_##name, &crate_polled_record_##name
+#define RUNS(name) #name, {bench_##name, crate_##name}, {bench_polls, crate_polls_##name, bench_typed_##name}, {bench_batches, bench_batch_##name}, &crate_record_##name, &crate_polled_record_##name
 
 static const struct row rows[] = {
     {RUNS(nec), {bench_encode_nec, crate_encode_nec}, nec_frame},
@@ -144,6 +152,11 @@ static void make_levels(void) {
 /* a change at each poll */
 static void make_changes(void) {
     for (size_t i = 0; i < ROOM; i++) levels[i] = !(i % 2);
+}
+
+/* the first edge is a rising one */
+static void make_rises(void) {
+    for (size_t i = 0; i < ROOM; i++) rising[i] = !(i % 2);
 }
 
 static void make_commands(const struct row *row) {
@@ -183,6 +196,14 @@ static uint64_t build(const struct row *row, int side, size_t count) {
     return sum;
 }
 
+/* not inlined: its arguments would change what `run` takes in the rows of the others */
+__attribute__((noinline)) static uint64_t batch(const struct row *row, int which, size_t count) {
+    static size_t places[PLACES];
+    static uint32_t kinds[PLACES];
+    static uint64_t values[PLACES];
+    return row->batches[which](rising, count, edges, count, places, PLACES, kinds, PLACES, values, PLACES, (uint32_t)(row - rows) + 1, RATE);
+}
+
 static uint64_t run(const struct row *row, int side, const char *kind, size_t count) {
     uint32_t protocol = (uint32_t)(row - rows) + 1;
     if (!strcmp(kind, "record")) return *row->record;
@@ -190,6 +211,7 @@ static uint64_t run(const struct row *row, int side, const char *kind, size_t co
     if (!strcmp(kind, "encode")) return encode_frames(row, side, count);
     if (!strcmp(kind, "build")) return build(row, side, count);
     if (!strcmp(kind, "quiet") || !strcmp(kind, "changing") || !strcmp(kind, "polled")) return row->polls[side](levels, count, protocol, 1000000 / POLL);
+    if (side >= BATCH) return batch(row, side - BATCH, count);
     return row->edges[side](edges, count, RATE);
 }
 
@@ -236,11 +258,19 @@ static void make(const struct row *row, const char *kind) {
         hold_frames(row);
     } else make_frames(row);
     if (!strcmp(kind, "polled")) make_levels();
+    make_rises();
+}
+
+static int side_of(const char *name) {
+    static const char *const sides[] = {"ours", "crate", "typed", "batch", "typedbatch"};
+    int side = 4;
+    while (side && strcmp(name, sides[side])) side--;
+    return side;
 }
 
 int main(int argc, char **argv) {
     if (argc != 5) return 2;
-    int side = !strcmp(argv[1], "crate") ? 1 : !strcmp(argv[1], "typed") ? 2 : 0;
+    int side = side_of(argv[1]);
     const char *kind = argv[2], *count = argv[4];
     for (size_t i = 0; i < sizeof rows / sizeof rows[0]; i++)
         if (!strcmp(argv[3], rows[i].name)) {

@@ -1,5 +1,5 @@
 /*
- * dorzhimu_seat.h: infrared frames and pulse lookup for seat firmware in C.
+ * dorzhimu_seat.h: infrared frames, edges and pulse lookup for seat firmware in C.
  *
  * Link with libseat.a, which `tools/seat-archive TARGET` writes for a processor;
  * THE MACHINE, below, lists them. What each call returns, stores and leaves is
@@ -31,6 +31,18 @@
  * A fitter's tool asks seat_measure instead. It also tells how far the pulse
  * lies from the length that it should have.
  *
+ * Receiving, at each wake. `levels` and `durations` hold the `waiting` edges, 64
+ * at most, so that each answer has a place:
+ *
+ *     uint64_t edges[64], values[64], used, count;
+ *     uint32_t kinds[64];
+ *     if (seat_edges(receiver, levels, waiting, durations, waiting, edges, 64, kinds, 64, values, 64, &used, &count) == SEAT_DONE)
+ *         for (unsigned i = 0; i < count; i++)
+ *             heard(kinds[i], values[i]);
+ *
+ * `uint32_t receiver[SEAT_RECEIVER]` is kept between the wakes. One call makes
+ * it: seat_open(SEAT_NEC, 1000000, receiver).
+ *
  * WHAT THE CALLER OWES
  *
  * Numbers: nothing. Every value of every number is answered.
@@ -40,6 +52,12 @@
  *  - `frame` points to `room` places that may be written. `length`, `place` and
  *    `difference` point to one number each. What they point to need hold nothing
  *    before the call. All are aligned as their types ask, and none is null.
+ *  - `receiver` points to `SEAT_RECEIVER` numbers. For seat_open they need hold
+ *    nothing. For seat_edges any numbers will do: what is not a receiver's is
+ *    taken for one, or refused.
+ *  - `levels`, `durations`, `edges`, `kinds` and `values` point to as many places
+ *    as the count after each says; the last three may be written. Each of
+ *    `levels` is a `bool`, 0 or 1. `used` and `count` point to one number each.
  *  - What the pointers of one call point to does not overlap, and nobody else
  *    uses it during the call.
  *  - Room 0 is the one exception: `frame` may then be NULL. The proof speaks of
@@ -64,17 +82,22 @@
  *
  * No archive needs anything from the linker: no routine of the compiler's own
  * library, none that divides among them, and nothing of the C library. None has
- * a divide instruction either.
+ * a divide instruction either. The one for the Cortex-M0 brings a routine that
+ * its compiler calls for a shift of 64 bits; it is tested, not proved.
  *
  * The proof speaks of the 64-bit machine. That the others answer alike is
  * tested on emulated ones (seat_test/emulated; docs/PROMISES.md, 'What is
  * assumed').
  *
- * All functions end, keep nothing between calls, have no data but constants (160
- * bytes on the small processors) and call no function of the caller's, so they
- * may be called from several threads at once. They take at most 140 bytes of
- * stack on the small processors (measured), and less than 250 on x86-64 with the
- * red zone (read off the code); that is not proved.
+ * All functions end, keep nothing between calls except in what they are lent,
+ * have no data but constants and call no function of the caller's, so they may be
+ * called from several threads at once. On the small processors seat_edges takes
+ * at most 420 bytes of stack besides its arguments, the other calls at most 140
+ * (measured); on x86-64 all take less than 250 with the red zone (read off the
+ * code). That is not proved.
+ *
+ * Each function has a section of its own: a firmware leaves out what it does not
+ * call by -Wl,--gc-sections. seat_edges is the largest. It has all five decoders.
  */
 
 #ifndef DORZHIMU_SEAT_H
@@ -103,7 +126,7 @@ SEAT_AGREES(__BYTE_ORDER__ == __ORDER_LITTLE_ENDIAN__, "the lowest byte comes fi
 extern "C" {
 #endif
 
-/** \brief Protocol numbers. SBP and Denon are for lookup alone. */
+/** \brief Protocol numbers. SBP and Denon are not sent. */
 #define SEAT_NEC 1u
 #define SEAT_RC5 2u
 #define SEAT_RC6 3u
@@ -122,6 +145,12 @@ extern "C" {
 /** \brief Refusal 3: the room is shorter than the frame. */
 #define SEAT_REFUSED_ROOM 3u
 
+/** \brief Refusal 4: the receiver's bit counter is past its end. */
+#define SEAT_REFUSED_RECEIVER 4u
+
+/** \brief Refusal 5: there are not as many levels as durations. */
+#define SEAT_REFUSED_LISTS 5u
+
 /** \brief The highest rate that is taken, in ticks a second; the lowest is 1. */
 #define SEAT_LAST_RATE 9673349u
 
@@ -135,6 +164,17 @@ extern "C" {
 
 /** \brief The place that stands for none of the eight. */
 #define SEAT_NO_PLACE 8u
+
+/** \brief The numbers of a receiver, 32 bits each. */
+#define SEAT_RECEIVER 32
+
+/** \brief The kinds of answers. */
+#define SEAT_COMMAND 1u
+#define SEAT_ERROR 2u
+
+/** \brief The values of an error: in the address, or in the data. */
+#define SEAT_ERROR_ADDRESS 1u
+#define SEAT_ERROR_DATA 2u
 
 /**
  * \brief Write the frame of a command.
@@ -276,6 +316,80 @@ uint32_t seat_lookup(uint32_t protocol, uint32_t rate, uint64_t duration, uint32
  */
 uint32_t seat_measure(uint32_t protocol, uint32_t rate, uint64_t duration,
 	uint32_t *place, int64_t *difference);
+
+/**
+ * \brief Make a fresh receiver.
+ *
+ * A receiver has heard nothing yet. It is `SEAT_RECEIVER` numbers, which the caller
+ * keeps and hands to `seat_edges`. What they mean is for this library alone to
+ * know. They hold no pointer: a receiver may be copied, moved and kept as it is.
+ *
+ * Refusals, in the order in which they are tested, and nothing else is refused:
+ *
+ *  - `SEAT_REFUSED_PROTOCOL` (2): `protocol` is not 1 to 5.
+ *  - `SEAT_REFUSED_RATE` (1): `rate` is 0 or above `SEAT_LAST_RATE`.
+ *
+ * A refused call writes nothing: the numbers are as they were.
+ *
+ * \param protocol   protocol number, `SEAT_NEC` to `SEAT_DENON`.
+ * \param rate       ticks a second, 1 to `SEAT_LAST_RATE`.
+ * \param receiver   receives the numbers.
+ * \return  `SEAT_DONE` (0), or the refusal number: 2 or 1.
+ */
+uint32_t seat_open(uint32_t protocol, uint32_t rate, uint32_t *receiver);
+
+/**
+ * \brief Hand edges to a receiver.
+ *
+ * Edge i has level `levels[i]`, true where it rises, and came `durations[i]` ticks
+ * after the edge before. The edges go to the receiver one after the other. Each
+ * that completes something has an answer. The answers go to three columns, answer
+ * i to place i of each:
+ *
+ *  - `edges[i]`: the number of its edge in this call, from 1.
+ *  - `kinds[i]`: `SEAT_COMMAND` (1) or `SEAT_ERROR` (2).
+ *  - `values[i]`: of an error `SEAT_ERROR_ADDRESS` (1) or `SEAT_ERROR_DATA` (2). Of
+ *    a command its values, 16 bits each, the first one lowest: NEC address,
+ *    command, repeat; RC5 address, command, start, toggle; RC6 address, command,
+ *    toggle; SBP address, command, valid. A flag is 1 or 0. Of Denon all 64 bits.
+ *
+ * There is room for as many answers as the shortest column has places. The call
+ * stops before the edge whose answer has no place. `*used` is then less than the
+ * number of edges: the next call carries on there, with the edges that are left.
+ * The places past the last answer are as they were.
+ *
+ * Answers and receiver are those of the same edges handed over one by one, or in
+ * any other parts.
+ *
+ * Refusals, in the order in which they are tested, and nothing else is refused:
+ *
+ *  - `SEAT_REFUSED_PROTOCOL` (2): `receiver` is none: its protocol is not 1 to 5.
+ *  - `SEAT_REFUSED_RECEIVER` (4): its bit counter is past the last bit. No
+ *    receiver that `seat_open` made gets there.
+ *  - `SEAT_REFUSED_LISTS` (5): `level_count` is not `duration_count`.
+ *
+ * A refused call writes nothing: the receiver, the columns, `*used` and `*count`
+ * are as they were.
+ *
+ * \param receiver   the receiver, `SEAT_RECEIVER` numbers; it is changed.
+ * \param levels     whether each edge rises.
+ * \param level_count  how many places `levels` has.
+ * \param durations  ticks before each edge.
+ * \param duration_count  how many places `durations` has.
+ * \param edges      places that receive the numbers of the answers' edges.
+ * \param edge_room  how many places `edges` has.
+ * \param kinds      places that receive the answers' kinds.
+ * \param kind_room  how many places `kinds` has.
+ * \param values     places that receive the answers' values.
+ * \param value_room how many places `values` has.
+ * \param used       receives the number of edges used.
+ * \param count      receives the number of answers.
+ * \return  `SEAT_DONE` (0), or the refusal number: 2, 4 or 5.
+ */
+uint32_t seat_edges(uint32_t *receiver,
+	const bool *levels, uint64_t level_count, const uint32_t *durations, uint64_t duration_count,
+	uint64_t *edges, uint64_t edge_room, uint32_t *kinds, uint64_t kind_room, uint64_t *values, uint64_t value_room,
+	uint64_t *used, uint64_t *count);
 
 #ifdef __cplusplus
 }

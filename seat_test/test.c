@@ -1,6 +1,6 @@
 /*
- * Calls seat_encode, seat_encode_closed, seat_lookup and seat_measure from C and holds them to include/dorzhimu_seat.h, on any machine that has
- * machine.h.
+ * Calls seat_encode, seat_encode_closed, seat_lookup, seat_measure, seat_open and seat_edges from C and holds them to include/dorzhimu_seat.h, on any
+ * machine that has machine.h.
  *
  * The recorded lists are those of crates/replay, its stdin and stdout: a call on each line, and the crate's answer on the same line.
  * The last line printed is the number of checks, and a number of all that was answered: it is the same on every machine. The first failure is
@@ -389,6 +389,373 @@ static void closed_frames(void)
 	}
 }
 
+/* ---- a receiver that is opened, or refused ---- */
+
+/* The numbers stand between others. */
+static void open_gives(uint32_t protocol, uint32_t rate, uint32_t number)
+{
+	uint32_t lent[GUARD + SEAT_RECEIVER + GUARD];
+
+	for (size_t i = 0; i < COUNT(lent); i++)
+		lent[i] = mark(i);
+	check(seat_open(protocol, rate, lent + GUARD) == number, "the number that seat_open returns");
+	note(number);
+	for (size_t i = 0; i < SEAT_RECEIVER; i++)
+		note(lent[GUARD + i]);
+	check(holds_marks(lent, 0, GUARD), "the numbers before the receiver are kept");
+	check(holds_marks(lent, GUARD + SEAT_RECEIVER, COUNT(lent)), "the numbers after the receiver are kept");
+	check(number == SEAT_DONE || holds_marks(lent, GUARD, GUARD + SEAT_RECEIVER), "a receiver that is refused is kept");
+}
+
+static void opened_and_refused(void)
+{
+	for (uint32_t protocol = SEAT_NEC; protocol <= SEAT_DENON; protocol++) {
+		for (size_t k = 0; k < COUNT(rates_taken); k++)
+			open_gives(protocol, rates_taken[k], SEAT_DONE);
+		for (size_t k = 0; k < COUNT(rates_refused); k++)
+			open_gives(protocol, rates_refused[k], SEAT_REFUSED_RATE);
+	}
+	for (size_t i = 0; i < COUNT(not_looked_up); i++) {
+		for (size_t k = 0; k < COUNT(rates_taken); k++)
+			open_gives(not_looked_up[i], rates_taken[k], SEAT_REFUSED_PROTOCOL);
+		for (size_t k = 0; k < COUNT(rates_refused); k++)
+			open_gives(not_looked_up[i], rates_refused[k], SEAT_REFUSED_PROTOCOL);
+	}
+}
+
+/* ---- edges by the handful ---- */
+
+#define MOST_EDGES 256
+#define MOST_ANSWERS 8
+#define COLUMN (MOST_ANSWERS + 4) /* a place before the answers, and places past them */
+#define SILENCE 20000             /* ticks at 1 MHz, before a frame */
+
+static struct {
+	bool levels[MOST_EDGES];
+	uint32_t durations[MOST_EDGES];
+	size_t count;
+} sent;
+
+struct heard {
+	uint64_t edge, value;
+	uint32_t kind;
+};
+
+/* A receiver, and all that it answered. */
+struct listener {
+	uint32_t receiver[SEAT_RECEIVER];
+	struct heard heard[MOST_ANSWERS];
+	size_t count;
+};
+
+/* The lent columns. */
+struct columns {
+	uint64_t edges[COLUMN], values[COLUMN];
+	uint32_t kinds[COLUMN];
+};
+
+static void put_column_marks(struct columns *c)
+{
+	for (size_t i = 0; i < COLUMN; i++) {
+		c->edges[i] = UINT64_MAX - i;
+		c->values[i] = UINT64_MAX / 2 - i;
+		c->kinds[i] = mark(i);
+	}
+}
+
+static bool columns_hold_marks(const struct columns *c, size_t from, size_t to)
+{
+	for (size_t i = from; i < to; i++)
+		if (c->edges[i] != UINT64_MAX - i || c->values[i] != UINT64_MAX / 2 - i || c->kinds[i] != mark(i))
+			return false;
+	return true;
+}
+
+static void send_edge(bool level, uint32_t duration)
+{
+	check(sent.count < MOST_EDGES, "the edges have room");
+	sent.levels[sent.count] = level;
+	sent.durations[sent.count] = duration;
+	sent.count++;
+}
+
+/* A frame after a silence. A mark that it leaves open is ended. */
+static void send_frame(struct command c)
+{
+	uint32_t frame[SEAT_LONGEST];
+	uint64_t length;
+
+	check(encode(&c, frame, SEAT_LONGEST, &length) == SEAT_DONE, "a frame is sent");
+	send_edge(true, SILENCE);
+	for (size_t i = 1; i < length; i++)
+		send_edge(i % 2 == 0, frame[i]);
+	if (length % 2 == 1)
+		send_edge(false, 500);
+}
+
+/* A mark and the space after it. */
+static void send_pulse(uint32_t total)
+{
+	send_edge(false, 400);
+	send_edge(true, total - 400);
+}
+
+/* Bits, lowest first. */
+static void send_bits(uint64_t bits, size_t count, uint32_t zero, uint32_t one)
+{
+	for (size_t i = 0; i < count; i++)
+		send_pulse((bits >> i & 1) == 1 ? one : zero);
+}
+
+static struct heard command_of(uint64_t first, uint64_t second, uint64_t third, uint64_t fourth)
+{
+	return (struct heard){0, first | second << 16 | third << 32 | fourth << 48, SEAT_COMMAND};
+}
+
+static struct heard error_of(uint64_t value)
+{
+	return (struct heard){0, value, SEAT_ERROR};
+}
+
+/* Each scene sends, and tells what is to be heard, except the edges. */
+static size_t nec_scene(struct heard *expected)
+{
+	send_frame((struct command){SEAT_NEC, 1000000, 4, 8, 0, false, true});
+	send_edge(true, SILENCE);
+	send_pulse(11250);
+	send_pulse(13500);
+	send_pulse(1120);
+	send_pulse(5000);
+	send_frame((struct command){SEAT_NEC, 1000000, 200, 99, 0, false, false});
+	expected[0] = command_of(4, 8, 0, 0);
+	expected[1] = command_of(4, 8, 1, 0);
+	expected[2] = error_of(SEAT_ERROR_DATA);
+	expected[3] = command_of(200, 99, 0, 0);
+	return 4;
+}
+
+static size_t rc5_scene(struct heard *expected)
+{
+	send_frame((struct command){SEAT_RC5, 1000000, 5, 12, 3, false, false});
+	send_frame((struct command){SEAT_RC5, 1000000, 31, 63, 3, true, false});
+	send_frame((struct command){SEAT_RC5, 1000000, 0, 1, 2, true, false});
+	expected[0] = command_of(5, 12, 3, 0);
+	expected[1] = command_of(31, 63, 3, 1);
+	expected[2] = command_of(0, 1, 2, 1);
+	return 3;
+}
+
+static size_t rc6_scene(struct heard *expected)
+{
+	send_frame((struct command){SEAT_RC6, 1000000, 4, 8, 0, false, false});
+	send_frame((struct command){SEAT_RC6, 1000000, 255, 170, 0, true, false});
+	expected[0] = command_of(4, 8, 0, 0);
+	expected[1] = command_of(255, 170, 1, 0);
+	return 2;
+}
+
+static size_t sbp_scene(struct heard *expected)
+{
+	send_edge(true, SILENCE);
+	send_pulse(9000);
+	send_bits(0xA5C3, 16, 1000, 2000);
+	send_pulse(5000);
+	send_bits(0xC33C5, 20, 1000, 2000);
+	send_pulse(9000);
+	send_pulse(1000);
+	send_pulse(3000);
+	send_pulse(9000);
+	send_bits(0, 16, 1000, 2000);
+	send_pulse(5000);
+	send_pulse(9000);
+	expected[0] = command_of(0xA5C3, 0x3C, 1, 0);
+	expected[1] = error_of(SEAT_ERROR_ADDRESS);
+	expected[2] = error_of(SEAT_ERROR_DATA);
+	return 3;
+}
+
+/* The last of the 48 bits is never stored. */
+static size_t denon_scene(struct heard *expected)
+{
+	uint64_t bits = UINT64_C(0xD234A68B9C7F);
+
+	send_edge(true, SILENCE);
+	send_pulse(5000);
+	send_bits(bits, 48, 840, 1680);
+	send_pulse(5000);
+	send_bits(~bits, 48, 840, 1680);
+	expected[0] = (struct heard){0, bits & (UINT64_MAX >> 17), SEAT_COMMAND};
+	expected[1] = (struct heard){0, ~bits & (UINT64_MAX >> 17), SEAT_COMMAND};
+	return 2;
+}
+
+/* One call with so many of the edges. Which column is the shortest is another each time. */
+static size_t take_edges(struct listener *l, size_t from, size_t size, size_t room)
+{
+	struct columns lent;
+	uint64_t numbers[4] = {901, HELD, HELD, 903};
+	size_t used, count;
+
+	put_column_marks(&lent);
+	check(seat_edges(l->receiver, sent.levels + from, size, sent.durations + from, size, lent.edges + 1, room + from % 3, lent.kinds + 1, room + (from + 1) % 3,
+		lent.values + 1, room + (from + 2) % 3, &numbers[1], &numbers[2]) == SEAT_DONE, "edges are taken");
+	used = (size_t)numbers[1];
+	count = (size_t)numbers[2];
+	note((uint32_t)used);
+	check(used == size || (used < size && count == room), "all edges are used, or no place is left");
+	check(count <= room && l->count + count <= MOST_ANSWERS, "the answers have room");
+	for (size_t i = 1; i <= count; i++) {
+		check(0 < lent.edges[i] && lent.edges[i] <= used, "an answer has the number of an edge that is used");
+		l->heard[l->count++] = (struct heard){from + lent.edges[i], lent.values[i], lent.kinds[i]};
+	}
+	check(columns_hold_marks(&lent, 0, 1) && columns_hold_marks(&lent, 1 + count, COLUMN), "the places beside the answers are kept");
+	check(numbers[0] == 901 && numbers[3] == 903, "the numbers beside those stored are kept");
+	return used;
+}
+
+static void open_listener(uint32_t protocol, struct listener *l)
+{
+	check(seat_open(protocol, 1000000, l->receiver) == SEAT_DONE, "a receiver is opened");
+	l->count = 0;
+}
+
+static void check_heard(const struct listener *l, const struct heard *expected, size_t count)
+{
+	check(l->count == count, "as many answers as expected");
+	for (size_t i = 0; i < count; i++) {
+		check(l->heard[i].kind == expected[i].kind && l->heard[i].value == expected[i].value, "the answer that is expected");
+		note(l->heard[i].kind);
+		note((uint32_t)l->heard[i].value);
+		note((uint32_t)(l->heard[i].value >> 32));
+		note((uint32_t)l->heard[i].edge);
+	}
+}
+
+/* The same edges in lists of one size, with one room. Where there is no room at all, or no edge, a call with one of it goes on. */
+static void check_parts(uint32_t protocol, size_t size, size_t room, const struct listener *whole)
+{
+	struct listener l;
+
+	open_listener(protocol, &l);
+	for (size_t from = 0; from < sent.count;) {
+		size_t left = sent.count - from, most = size < left ? size : left, used = take_edges(&l, from, most, room);
+
+		from += used > 0 ? used : take_edges(&l, from, most > 0 ? most : 1, room > 0 ? room : 1);
+	}
+	check_heard(&l, whole->heard, whole->count);
+	for (size_t i = 0; i < whole->count; i++)
+		check(l.heard[i].edge == whole->heard[i].edge, "the edge of each answer, counted on");
+	check(are_same(l.receiver, whole->receiver, SEAT_RECEIVER), "the receiver is the same");
+}
+
+/* ---- refusals of edges: nothing at all is stored ---- */
+
+static void edges_refused(const uint32_t *receiver, size_t levels, size_t durations, uint32_t number)
+{
+	uint32_t lent[SEAT_RECEIVER];
+	struct columns columns;
+	uint64_t used = HELD, count = HELD;
+
+	for (size_t i = 0; i < SEAT_RECEIVER; i++)
+		lent[i] = receiver[i];
+	put_column_marks(&columns);
+	check(seat_edges(lent, sent.levels, levels, sent.durations, durations, columns.edges, COLUMN, columns.kinds, COLUMN, columns.values, COLUMN, &used, &count) == number,
+		"the number that seat_edges returns");
+	note(number);
+	check(are_same(lent, receiver, SEAT_RECEIVER), "a refused call keeps the receiver");
+	check(columns_hold_marks(&columns, 0, COLUMN), "a refused call keeps the columns");
+	check(used == HELD && count == HELD, "a refused call stores no numbers");
+}
+
+/* The first number of a receiver is its protocol, the next two are its state. A counter past its end is told before lists that differ, and a protocol before both. */
+static void edge_refusals(void)
+{
+	static const uint32_t past_end[][3] = {
+		{SEAT_NEC, 1, 32}, {SEAT_RC5, 1, 13}, {SEAT_RC5, 1, 255}, {SEAT_RC6, 3, 4}, {SEAT_RC6, 5, 16}, {SEAT_SBP, 1, 16}, {SEAT_SBP, 3, 20}, {SEAT_DENON, 1, 48},
+		{SEAT_NEC, 1, UINT32_MAX},
+	};
+	uint32_t receiver[SEAT_RECEIVER];
+
+	for (size_t i = 0; i < COUNT(past_end); i++) {
+		seat_open(past_end[i][0], 1000000, receiver);
+		edges_refused(receiver, 3, 4, SEAT_REFUSED_LISTS);
+		edges_refused(receiver, 1, 0, SEAT_REFUSED_LISTS);
+		receiver[1] = past_end[i][1];
+		receiver[2] = past_end[i][2];
+		edges_refused(receiver, 3, 3, SEAT_REFUSED_RECEIVER);
+		edges_refused(receiver, 0, 0, SEAT_REFUSED_RECEIVER);
+		edges_refused(receiver, 3, 4, SEAT_REFUSED_RECEIVER);
+		for (size_t k = 0; k < COUNT(not_looked_up); k++) {
+			receiver[0] = not_looked_up[k];
+			edges_refused(receiver, 3, 4, SEAT_REFUSED_PROTOCOL);
+			edges_refused(receiver, 3, 3, SEAT_REFUSED_PROTOCOL);
+		}
+	}
+}
+
+/* ---- any numbers are taken for a receiver ---- */
+
+static uint32_t next_number(void)
+{
+	static uint32_t n = 1;
+
+	n = n * 1664525u + 1013904223u;
+	return n >> 8 | n << 24;
+}
+
+/* A receiver's numbers, whatever they are, are a receiver's after a call: a call with no edge then changes nothing. */
+static void any_numbers(void)
+{
+	uint32_t again[SEAT_RECEIVER];
+	struct listener l;
+
+	for (uint32_t turn = 0; turn < 2000; turn++) {
+		struct columns columns;
+		uint64_t used = 0, count = 0;
+		uint32_t number;
+
+		for (size_t i = 0; i < SEAT_RECEIVER; i++)
+			l.receiver[i] = next_number();
+		l.receiver[0] = SEAT_NEC + turn % SEAT_DENON;
+		l.receiver[1] %= 10;
+		l.receiver[2] %= turn % 3 == 0 ? 1000 : 20;
+		number = seat_edges(l.receiver, sent.levels, turn % 64, sent.durations, turn % 64, columns.edges, COLUMN, columns.kinds, COLUMN, columns.values, COLUMN, &used, &count);
+		check(number == SEAT_REFUSED_RECEIVER || (number == SEAT_DONE && used <= turn % 64 && count <= COLUMN), "any receiver is taken, or refused with 4");
+		note(number);
+		note((uint32_t)(used + count));
+		for (size_t i = 0; i < SEAT_RECEIVER; i++)
+			note(again[i] = l.receiver[i]);
+		if (number != SEAT_DONE)
+			continue;
+		l.count = 0;
+		take_edges(&l, 0, 0, 1);
+		check(are_same(l.receiver, again, SEAT_RECEIVER), "a call with no edge keeps a receiver");
+	}
+}
+
+/* All edges in one call, and in lists of 0 to 64 edges with room for 0 to 8 answers. */
+static void handfuls(void)
+{
+	static size_t (*const scenes[])(struct heard *) = {nec_scene, rc5_scene, rc6_scene, sbp_scene, denon_scene};
+
+	for (uint32_t protocol = SEAT_NEC; protocol <= SEAT_DENON; protocol++) {
+		struct heard expected[MOST_ANSWERS];
+		struct listener whole;
+		size_t count;
+
+		sent.count = 0;
+		count = scenes[protocol - SEAT_NEC](expected);
+		open_listener(protocol, &whole);
+		check(take_edges(&whole, 0, sent.count, MOST_ANSWERS) == sent.count, "one call uses all edges");
+		check_heard(&whole, expected, count);
+		for (size_t size = 0; size <= 64; size++)
+			for (size_t room = 0; room <= MOST_ANSWERS; room++)
+				check_parts(protocol, size, room, &whole);
+	}
+	edge_refusals();
+	any_numbers();
+}
+
 /* ---- the recorded list ---- */
 
 #define END (-1)
@@ -613,6 +980,8 @@ void run_checks(void)
 	recorded();
 	longest_frames();
 	closed_frames();
+	opened_and_refused();
+	handfuls();
 	put_number(checks);
 	put_text(" checks, answers ");
 	put_number(answered);

@@ -29,6 +29,8 @@ pub enum Source {
     /// The crate cannot be asked: it names no bounds, and once a bit counter of a slot was set,
     /// which it has no way to do, document 01 answers until the slot is opened again.
     NotAsked,
+    /// An edge waits: nobody is asked.
+    Waits,
     Refused,
     /// The slot holds nothing.
     NotOpen,
@@ -46,7 +48,7 @@ const DOCUMENT: [Source; 5] = [
 
 /// How many answers each source gave, in the order of `Source`.
 #[derive(Default)]
-pub struct Counts([u64; 9]);
+pub struct Counts([u64; 10]);
 
 impl Counts {
     pub fn add(&mut self, source: Source) {
@@ -76,20 +78,21 @@ impl Counts {
 impl fmt::Display for Counts {
     fn fmt(&self, f: &mut fmt::Formatter) -> fmt::Result {
         let [by_crate, other_spans, above_crate, not_built, after_sum, rest @ ..] = self.0;
-        let [not_asked, refused, not_open, not_understood] = rest;
+        let [not_asked, waits, refused, not_open, not_understood] = rest;
         write!(
             f,
             "answered by the crate {}, by document 01 where the crate's spans differ {}, \
              by document 01 above 32 bits {}, by document 01 at a rate that is not built {}, \
              by document 01 after a sum above 32 bits {}, \
              by document 01 where the crate cannot be asked {}, \
-             refused {}, not open {}, not understood {}",
+             edges that wait {}, refused {}, not open {}, not understood {}",
             by_crate,
             other_spans,
             above_crate,
             not_built,
             after_sum,
             not_asked,
+            waits,
             refused,
             not_open,
             not_understood
@@ -124,6 +127,7 @@ pub fn answer(call: &Call, slots: &mut Slots, text: &mut Vec<u8>) -> Source {
             number,
         } => return slots.count(slot, is_last, number, text),
         Call::Bounds { protocol } => bounds(protocol),
+        Call::Wait { place, edge } => return slots.wait(place, edge, text),
     };
     let (shown, source) =
         told.unwrap_or_else(|refusal| (format!("refused {}", refusal), Source::Refused));

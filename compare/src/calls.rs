@@ -49,10 +49,18 @@ pub enum Call {
     },
     /// The least silence and the most deviation of demand 3.
     Bounds { protocol: u32 },
+    /// An edge waits at a place of the two lists.
+    Wait { place: usize, edge: Edge },
 }
 
 /// The slots are 0 to 7.
 pub const SLOTS: usize = 8;
+
+/// The most edges that wait.
+pub const WAITING: usize = 64;
+
+/// The most places of each column that is lent to a batch.
+pub const COLUMN: usize = 8;
 
 /// The most polls of a `poll` call; it makes at least one.
 pub const POLLS: u32 = 1_000_000;
@@ -68,6 +76,17 @@ pub enum Ask {
     Reset,
     /// A frame goes to the decoder.
     Send(Send),
+    /// The edges that wait go to the decoder.
+    Batch(Batch),
+}
+
+/// So many of the levels and of the durations that wait, and columns of `room` places. Each place
+/// holds a mark of its own before the call.
+#[derive(Clone, Copy)]
+pub struct Batch {
+    pub room: usize,
+    pub levels: usize,
+    pub durations: usize,
 }
 
 /// A command of the decoder's protocol as it is sent at 1 MHz: after a silence, with a deviation of
@@ -151,6 +170,7 @@ impl fmt::Display for Call {
                 number,
             } => write!(f, "counter {} {} {}", slot, u8::from(*is_last), number),
             Call::Bounds { protocol } => write!(f, "bounds {}", protocol),
+            Call::Wait { place, edge } => write!(f, "wait {} {}", place, edge),
         }
     }
 }
@@ -164,6 +184,7 @@ impl Ask {
             Ask::Command => write!(f, "command {}", slot),
             Ask::Reset => write!(f, "reset {}", slot),
             Ask::Send(sent) => write!(f, "send {} {}", slot, sent),
+            Ask::Batch(batch) => write!(f, "batch {} {}", slot, batch),
         }
     }
 }
@@ -171,6 +192,12 @@ impl Ask {
 impl fmt::Display for Send {
     fn fmt(&self, f: &mut fmt::Formatter) -> fmt::Result {
         write!(f, "{} {} {}", self.command, self.silence, self.deviation)
+    }
+}
+
+impl fmt::Display for Batch {
+    fn fmt(&self, f: &mut fmt::Formatter) -> fmt::Result {
+        write!(f, "{} {} {}", self.room, self.levels, self.durations)
     }
 }
 
@@ -249,6 +276,10 @@ impl<'a, I: Iterator<Item = &'a [u8]>> Words<I> {
             b"bounds" => Call::Bounds {
                 protocol: self.number()?,
             },
+            b"wait" => Call::Wait {
+                place: self.number_up_to(WAITING - 1)?,
+                edge: self.edge()?,
+            },
             name => self.slot_call(name)?,
         })
     }
@@ -326,6 +357,11 @@ impl<'a, I: Iterator<Item = &'a [u8]>> Words<I> {
                 command: self.command()?,
                 silence: self.number()?,
                 deviation: self.number()?,
+            }),
+            b"batch" => Ask::Batch(Batch {
+                room: self.number_up_to(COLUMN)?,
+                levels: self.number_up_to(WAITING)?,
+                durations: self.number_up_to(WAITING)?,
             }),
             _ => return None,
         })

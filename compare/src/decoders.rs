@@ -22,6 +22,18 @@ pub trait Twins {
     fn command(&self) -> Option<Heard>;
 
     fn reset(&mut self);
+
+    /// As before the last `total`. The crate's decoders can be neither copied nor turned back: they
+    /// are built anew, and all that came since is handed to them again.
+    fn step_back(&mut self);
+}
+
+/// What came since a decoder was built.
+#[derive(Clone, Copy)]
+enum Step {
+    Event(bool, u32),
+    Total(bool, u32),
+    Reset,
 }
 
 pub fn twins(protocol: Protocol, rate: u32) -> Box<dyn Twins> {
@@ -39,16 +51,26 @@ where
     P: DecoderFactory<u32> + 'static,
     Heard: From<P::Cmd>,
 {
-    Box::new(TwinsOf::<P> {
-        by_event: P::decoder(rate),
-        by_total: P::decoder(rate),
-    })
+    Box::new(TwinsOf::<P>::new(rate))
 }
 
 struct TwinsOf<P: DecoderFactory<u32>> {
     /// Never asked for event_total: we reset it by the rule.
     by_event: P::Decoder,
     by_total: P::Decoder,
+    rate: u32,
+    steps: Vec<Step>,
+}
+
+impl<P: DecoderFactory<u32>> TwinsOf<P> {
+    fn new(rate: u32) -> TwinsOf<P> {
+        TwinsOf {
+            by_event: P::decoder(rate),
+            by_total: P::decoder(rate),
+            rate,
+            steps: Vec::new(),
+        }
+    }
 }
 
 impl<P> Twins for TwinsOf<P>
@@ -57,6 +79,7 @@ where
     Heard: From<P::Cmd>,
 {
     fn event(&mut self, rising: bool, duration: u32) -> Status {
+        self.steps.push(Step::Event(rising, duration));
         let status = status_of(self.by_event.event(rising, duration));
         let other = status_of(self.by_total.event(rising, duration));
         assert_eq!(status, other, "the crate's two decoders, status");
@@ -64,6 +87,7 @@ where
     }
 
     fn total(&mut self, rising: bool, duration: u32) -> Shown {
+        self.steps.push(Step::Total(rising, duration));
         let status = status_of(self.by_event.event(rising, duration));
         let heard = self.by_event.command().map(Heard::from);
         if matches!(status, Status::Done | Status::Error(_)) {
@@ -85,8 +109,26 @@ where
     }
 
     fn reset(&mut self) {
+        self.steps.push(Step::Reset);
         self.by_event.reset();
         self.by_total.reset();
+    }
+
+    fn step_back(&mut self) {
+        let mut steps = std::mem::take(&mut self.steps);
+        steps.pop();
+        *self = TwinsOf::new(self.rate);
+        for step in steps {
+            match step {
+                Step::Event(rising, duration) => {
+                    self.event(rising, duration);
+                }
+                Step::Total(rising, duration) => {
+                    self.total(rising, duration);
+                }
+                Step::Reset => self.reset(),
+            }
+        }
     }
 }
 

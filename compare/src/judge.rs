@@ -9,6 +9,7 @@ use crate::calls::Edge;
 use crate::document::Protocol;
 use crate::model::Decoder;
 
+#[derive(Clone)]
 pub struct Judge {
     /// What the slot holds.
     name: &'static str,

@@ -14,7 +14,7 @@ use crate::slots::{Reported, Slots};
 /// The answers to many calls fit it: fewer turns between us and the program.
 const BUFFER: usize = 1 << 16;
 
-/// The parts that are run, and how many times longer those of edges and of polls are.
+/// The parts that are run, and how many times longer those of edges, polls and batches are.
 #[derive(Clone, Copy)]
 pub struct Choice {
     pub parts: &'static [Part],
@@ -197,12 +197,13 @@ fn print_part(out: &mut impl Write, part: &Part, tally: &Tally) -> io::Result<()
     let Tally { counts, reported } = tally;
     writeln!(
         out,
-        "part {:12}{:>8}: by the crate {}, by document 01 {}, refused {}, \
+        "part {:12}{:>8}: by the crate {}, by document 01 {}, edges that wait {}, refused {}, \
          commands reported {}, errors reported {}, refusals reported {}, polls {}",
         part.name,
         counts.all(),
         counts.of(Source::Crate),
         counts.by_document(),
+        counts.of(Source::Waits),
         counts.of(Source::Refused),
         reported.commands,
         reported.errors,

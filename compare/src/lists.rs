@@ -2,6 +2,7 @@
 
 use std::collections::BTreeSet;
 
+use crate::batch_lists;
 use crate::calls::{Call, Lookup};
 use crate::closed_frame_lists;
 use crate::document::{self, Protocol, PROTOCOLS};
@@ -38,7 +39,7 @@ impl Part {
 }
 
 /// The parts of the large run, in their order.
-pub static PARTS: [Part; 15] = [
+pub static PARTS: [Part; 16] = [
     part("spans", spans_part),
     part("measure", measure_lists::measure_part),
     part("nec", frame_lists::nec_part),
@@ -58,6 +59,7 @@ pub static PARTS: [Part; 15] = [
     longer_part("sbp-edges", edge_lists::sbp_part),
     longer_part("denon-edges", edge_lists::denon_part),
     longer_part("polls", poll_lists::polls_part),
+    longer_part("batches", batch_lists::batches_part),
 ];
 
 const fn part(name: &'static str, calls: fn() -> Calls) -> Part {

@@ -2,6 +2,8 @@
 //! The calls and their answers are lines of text: calls.rs has the language.
 
 mod answers;
+mod batch;
+mod batch_lists;
 mod calls;
 mod closed;
 mod closed_frame_lists;
@@ -33,6 +35,7 @@ mod random;
 mod rates;
 mod receivers;
 mod recorded;
+mod recorded_batches;
 mod recorded_counters;
 mod recorded_frames;
 mod recorded_measures;
@@ -64,8 +67,8 @@ const USAGE: &str = "usage:
   compare calls [--part NAME] [--times N]
                                      the calls of the large run
   compare large [--part NAME] [--times N] PROGRAM [ARGS..]
-                                     the large run against a program; the parts of edges
-                                     and of polls are made N times longer
+                                     the large run against a program; the parts of edges,
+                                     polls and batches are made N times longer
   compare mutated [--times N] TOUR PROGRAM [ARGS..]
                                      bad input: mutated lines and files to the program,
                                      mutated words to TOUR, closed outputs of both; N passes
@@ -127,8 +130,8 @@ fn run(words: &[OsString]) -> io::Result<Option<bool>> {
     held
 }
 
-/// All parts, or the one that the words name, and how much longer those of edges and of polls are;
-/// and the words after. `None` where the part is unknown or the number is none.
+/// All parts, or the one that the words name, and how much longer those of edges, polls and batches
+/// are; and the words after. `None` where the part is unknown or the number is none.
 fn choose(words: &[OsString]) -> Option<(Choice, &[OsString])> {
     let (parts, words) = match words {
         [option, name, rest @ ..] if option == "--part" => {

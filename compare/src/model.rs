@@ -5,6 +5,7 @@ use crate::document::{self, Protocol, Spans};
 use crate::reports::{Fault, Heard, Report, Shown, Status};
 
 /// A decoder of any protocol. Each uses what its rules name.
+#[derive(Clone)]
 pub struct Decoder {
     protocol: Protocol,
     spans: Spans,

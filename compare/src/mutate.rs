@@ -36,8 +36,8 @@ const LONG_ONCE_IN: u32 = 200;
 
 const LENGTHS: [usize; 5] = [65_535, 65_536, 65_537, 70_000, 1 << 20];
 
-/// Edges of 8, 32, 63 and 64 bits, of slots, rooms, rates and counts, and what is no number.
-pub const EDGES: [&str; 33] = [
+/// Edges of 8, 32, 63 and 64 bits, of slots, rooms, lists, rates and counts, and what is no number.
+pub const EDGES: [&str; 37] = [
     "0",
     "1",
     "2",
@@ -45,8 +45,12 @@ pub const EDGES: [&str; 33] = [
     "6",
     "7",
     "8",
+    "9",
     "15",
     "16",
+    "63",
+    "64",
+    "65",
     "66",
     "67",
     "68",

@@ -1,6 +1,7 @@
 //! The scenes of the recorded test: each begins with what it opens, and is named by the mistake
 //! that it would show.
 
+use crate::recorded_batches::*;
 use crate::recorded_counters::*;
 use crate::recorded_measures::*;
 use crate::recorded_polls::*;
@@ -115,6 +116,23 @@ scenes! {
     deviation_stops_at_32_bits,
     denon_is_sent_as_nothing,
     sent_fields_are_exchanged,
+    // The first of these: no edge waits yet.
+    no_edge_waits_at_first,
+    answer_is_numbered_from_0,
+    edge_without_room_is_fed,
+    place_past_the_last_answer_is_written,
+    unlike_lists_are_tested_before_the_counter,
+    empty_lists_pass_the_counter,
+    unlike_lists_are_taken,
+    second_batch_begins_afresh,
+    error_is_no_answer,
+    no_room_takes_an_answer,
+    empty_list_is_refused,
+    list_of_64_is_cut,
+    edges_wait_only_once,
+    values_overlap,
+    batch_takes_another_slot,
+    wrong_batch_is_taken,
 }
 
 fn scene_of(write: fn(&mut Scene)) -> Scene {

@@ -31,6 +31,8 @@ pub fn closed_slot_answers(scene: &mut Scene) {
         "edge 6 0 0",
         "counter 1 0 0",
         "send 2 4 8 3 0 14446 28",
+        "batch 1 8 0 0",
+        "batch 2 8 1 2",
         "open 7 6 1000000",
         "command 7",
         "open 7 1 0",

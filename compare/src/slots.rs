@@ -2,7 +2,8 @@
 //! Who gives them is in judge.rs.
 
 use crate::answers::Source;
-use crate::calls::{Ask, Edge, SLOTS};
+use crate::batch::{self, Waiting};
+use crate::calls::{Ask, Batch, Edge, SLOTS};
 use crate::decoders::{self, Twins};
 use crate::document::{self, Protocol};
 use crate::frames;
@@ -18,6 +19,7 @@ use crate::text::push;
 pub struct Slots {
     decoders: [Option<Slot>; SLOTS],
     receivers: [Option<PolledSlot>; SLOTS],
+    waiting: Waiting,
     reported: Reported,
 }
 
@@ -68,6 +70,19 @@ impl Slots {
                 slot.reset();
                 text.extend_from_slice(b"reset");
             }
+            Ask::Batch(told) => {
+                if let Err(refusal) = slot.admit(told) {
+                    batch::push_refused(text, refusal, told.room);
+                    return Source::Refused;
+                }
+                let handful =
+                    batch::handful(self.waiting.edges(told), told.room, |edge, has_room| {
+                        let report = slot.total_if(&edge, has_room)?;
+                        self.reported.add(report);
+                        Some(report)
+                    });
+                batch::push_handful(text, &handful, told.room);
+            }
             Ask::Send(told) => {
                 let kind = match frames::admit(slot.judge.protocol.number(), send::RATE) {
                     Ok(kind) => kind,
@@ -82,6 +97,13 @@ impl Slots {
             }
         }
         slot.judge.source()
+    }
+
+    /// Adds the answer to `text`.
+    pub fn wait(&mut self, place: usize, edge: Edge, text: &mut Vec<u8>) -> Source {
+        self.waiting.set(place, edge);
+        text.extend_from_slice(b"waits");
+        Source::Waits
     }
 
     /// Adds the answer to `text`. The polled receivers' slots come after those of decoders.
@@ -206,6 +228,32 @@ impl Slot {
         let exact = self.document.total(edge.rising, edge.duration);
         let ask = || self.crates.total(edge.rising, edge.duration);
         self.judge.told(exact, ask)
+    }
+
+    /// What the edge reports; `None` where that has no room, and then it was not handed over. The
+    /// crate's decoder tells only once it has taken the edge: it is stepped back.
+    fn total_if(&mut self, edge: &Edge, has_room: bool) -> Option<Report> {
+        let before = (self.judge.clone(), self.document.clone());
+        let report = self.total(edge).report;
+        if has_room || report == Report::Nothing {
+            return Some(report);
+        }
+        if self.judge.source() == Source::Crate {
+            self.crates.step_back();
+        }
+        (self.judge, self.document) = before;
+        None
+    }
+
+    /// The refusal of a batch: 4 is tested before 5. The crate has none.
+    fn admit(&self, told: &Batch) -> Result<(), u32> {
+        if self.document.is_past_end() {
+            return Err(4);
+        }
+        if told.levels != told.durations {
+            return Err(5);
+        }
+        Ok(())
     }
 
     fn command(&mut self) -> Option<Heard> {

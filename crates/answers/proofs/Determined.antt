@@ -5,6 +5,8 @@ use Rattle.answers.proofs.with as with
 use Rattle.answers.proofs.with_two as with-two
 use Rattle.answers.proofs.of_refused as of-refused
 use Rattle.answers.proofs.of_edge as of-edge
+use Rattle.answers.proofs.of_column as of-column
+use Rattle.answers.proofs.of_left as of-left
 use Rattle.answers.proofs.of_bounds as of-bounds
 use Rattle.answers.proofs.of_status as of-status
 use Rattle.answers.proofs.of_report as of-report
@@ -61,6 +63,12 @@ of-refused-fixed M 𝓤 H 𝓜 𝓖 𝓡 = (of-refused.Met.met 𝓤 H 𝓜 𝓖 
 
 of-edge-fixed : Fixed of-edge.ended (λ M. of-edge.clauses) of-edge.Symbol.routine
 of-edge-fixed M 𝓤 H 𝓜 𝓖 𝓡 = (of-edge.Met.met 𝓤 H 𝓜 𝓖 𝓡, λ κs a. asks-nothing 𝓤, λ κs a g h r s v w. both one one alike)
+
+of-column-fixed : Fixed of-column.ended (λ M. of-column.clauses) of-column.Symbol.routine
+of-column-fixed M 𝓤 H 𝓜 𝓖 𝓡 = (of-column.Met.met 𝓤 H 𝓜 𝓖 𝓡, λ κs a. asks-nothing 𝓤, λ κs a g h r s v w. both one one alike)
+
+of-left-fixed : Fixed of-left.ended (λ M. of-left.clauses) of-left.Symbol.routine
+of-left-fixed M 𝓤 H 𝓜 𝓖 𝓡 = (of-left.Met.met 𝓤 H 𝓜 𝓖 𝓡, λ κs a. asks-nothing 𝓤, λ κs a g h r s v w. both one one alike)
 
 of-bounds-fixed : Fixed of-bounds.ended (λ M. of-bounds.clauses) of-bounds.Symbol.routine
 of-bounds-fixed M 𝓤 H 𝓜 𝓖 𝓡 = (of-bounds.Met.met 𝓤 H 𝓜 𝓖 𝓡, λ κs a. asks-nothing 𝓤, λ κs a g h r s v w. both one one alike)

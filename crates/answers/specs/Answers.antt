@@ -108,6 +108,15 @@ unwrittenPhrase count = withOf (word (" " ∷ "k" ∷ "e" ∷ "p" ∷ "t" ∷ []
 abbrev pub edgePhrase : ℕ → ℕ → Phrase
 edgePhrase edge others = withTwo (word ("e" ∷ "d" ∷ "g" ∷ "e" ∷ [])) 0 edge others
 
+-- an answer of a batch, after others: the edge's number, the kind and the value
+abbrev pub columnPhrase : (edge kind value : ℕ) → Phrase
+columnPhrase edge kind value =
+    record { head = word ("," ∷ " " ∷ "e" ∷ "d" ∷ "g" ∷ "e" ∷ []); tail = 0; numbers = edge ∷ kind ∷ value ∷ 0 ∷ []; count = 3 }
+
+-- after the answers of a batch: the places of the columns that are unwritten
+abbrev pub leftPhrase : ℕ → Phrase
+leftPhrase count = withOf (word ("," ∷ " " ∷ "k" ∷ "e" ∷ "p" ∷ "t" ∷ [])) 0 count
+
 -- the least silence and the largest deviation with which a frame is heard
 abbrev pub boundsPhrase : ℕ → ℕ → Phrase
 boundsPhrase silence deviation = withTwo (word ("b" ∷ "o" ∷ "u" ∷ "n" ∷ "d" ∷ "s" ∷ [])) 0 silence deviation

@@ -10,7 +10,7 @@ use reports::status_numbers;
 use spans::Answer;
 use spans::Found;
 ghost use mathlib.Core.Path.{_≡_};
-ghost use Rattle.answers.specs.Answers.{textOf, withOf, withTwo, refusedPhrase, faultPhrase, nameOf, statusBy, statusPhrase, reportBy, reportPhrase, answerPhrase, foundPhrase, encodedPhrase, unwrittenPhrase, edgePhrase, boundsPhrase, notOpen, notUnderstood, isTaken};
+ghost use Rattle.answers.specs.Answers.{textOf, withOf, withTwo, refusedPhrase, faultPhrase, nameOf, statusBy, statusPhrase, reportBy, reportPhrase, answerPhrase, foundPhrase, encodedPhrase, unwrittenPhrase, edgePhrase, columnPhrase, leftPhrase, boundsPhrase, notOpen, notUnderstood, isTaken};
 
 // The characters are digits of base 256: the first eight, and the rest.
 pub struct Phrase {
@@ -26,6 +26,17 @@ pub const IDLE: u64 = 0x69646C65;
 pub const RESET: u64 = 0x7265736574;
 
 pub const COUNTER: u64 = 0x636F756E746572;
+
+pub const WAITS: u64 = 0x7761697473;
+
+// Why a batch stopped, the edges used and the answers written.
+pub const ALL: u64 = 0x616C6C;
+
+pub const NO_ROOM: u64 = 0x6E6F20726F6F6D;
+
+pub const USED: u64 = 0x75736564;
+
+pub const ANSWERS: u64 = 0x616E7377657273;
 
 const RECEIVING: u64 = 0x726563656976696E;
 
@@ -74,6 +85,10 @@ const WROTE: u64 = 0x77726F7465;
 const KEPT: u64 = 0x206B657074;
 
 const EDGE: u64 = 0x65646765;
+
+const NEXT_EDGE: u64 = 0x2C2065646765;
+
+const NEXT_KEPT: u64 = 0x2C206B657074;
 
 const BOUNDS: u64 = 0x626F756E6473;
 
@@ -250,6 +265,25 @@ pub fn of_edge(edge: u32, others: u32) -> Phrase
     ensures { λ r. ⌜ r ≡ edgePhrase edge others ⌝ }
 {
     with_two(EDGE, 0, edge as u64, others as u64)
+}
+
+// An answer of a batch, after others: the edge's number, the kind and the value, as the columns hold them.
+pub fn of_column(edge: usize, kind: u32, value: u64) -> Phrase
+    ensures { λ r. ⌜ r ≡ columnPhrase edge kind value ⌝ }
+{
+    Phrase {
+        head: NEXT_EDGE,
+        tail: 0,
+        numbers: [edge as u64, kind as u64, value, 0],
+        count: 3,
+    }
+}
+
+// The places of the columns that are unwritten, after others.
+pub fn of_left(count: usize) -> Phrase
+    ensures { λ r. ⌜ r ≡ leftPhrase count ⌝ }
+{
+    with(NEXT_KEPT, 0, count as u64)
 }
 
 pub fn of_bounds(silence: u32, deviation: u32) -> Phrase

@@ -7,10 +7,10 @@ use lib.Dec.{eqb}
 use lib.ListN.{getD}
 use Rattle.polled.specs.Polled.{polledAt}
 use Rattle.polled.specs.declared.Polled.{Polled}
-use Rattle.answers.specs.Answers.{reportPhrase, notOpen}
+use Rattle.answers.specs.Answers.{reportPhrase}
 use Rattle.answers.specs.declared.Phrase.{Phrase}
 use Rattle.calls.specs.Parts.{alone}
-use Rattle.calls.specs.Slots.{heldBy, openedBy, pollsAt, polledBy, idleAt, withDecoder, askedAt, heldAt, calledOn}
+use Rattle.calls.specs.Slots.{heldBy, closedBy, openedBy, pollsAt, polledBy, idleAt, withDecoder, askedAt, heldAt, calledOn}
 use Rattle.calls.specs.declared.on_slots.Parts.{Parts}
 use Rattle.calls.specs.declared.on_slots.Slot.{Slot}
 use Rattle.calls.specs.declared.slots.DecoderAnswer.{DecoderAnswer}
@@ -20,9 +20,6 @@ use Rattle.calls.proofs.Made.{picked, passed}
 
 abbrev ticked : Polled → ℕ → Polled
 ticked p clock = record { decoder = p .decoder; clock = clock; «last_edge» = p .«last_edge»; level = p .level }
-
-abbrev closedWith : Slot → Parts → SlotAnswer
-closedWith slot parts = record { slot = slot; parts = parts }
 
 -- on an open slot
 module _ (call : ℕ) (p : Polled) (a b : ℕ) (n : List ℕ) where
@@ -57,6 +54,6 @@ module _ (call : ℕ) (slot : Slot) (n : List ℕ) {a b : ℕ} (p : a ≡ getD n
     unfolding calledOn
     held-is o h = passed _ _ _ _ t (picked _ _ _ _ o (h ∙ (λ i. heldAt call (slot .receiver) (p i) (q i) n)))
 
-    pub closed-is : slot .is_open ≡ false → {phrase : Phrase} {parts : Parts} → phrase ≡ notOpen → parts ≡ alone phrase → closedWith slot parts ≡ calledOn call slot n
+    pub closed-is : slot .is_open ≡ false → {x : SlotAnswer} → x ≡ closedBy slot → x ≡ calledOn call slot n
     unfolding calledOn
-    closed-is o e h = passed _ _ _ _ t (passed _ _ _ _ o ((λ i. closedWith slot (h i)) ∙ (λ i. closedWith slot (alone (e i)))))
+    closed-is o h = passed _ _ _ _ t (passed _ _ _ _ o h)

@@ -6,6 +6,8 @@ use Rattle.calls.proofs.on_slots.all_closed as all-closed
 use Rattle.calls.proofs.on_frames.unwritten as unwritten
 use Rattle.calls.proofs.on_frames.encode as encode
 use Rattle.calls.proofs.on_slots.answered as answered
+use Rattle.calls.proofs.on_slots.decoder_of as decoder-of
+use Rattle.calls.proofs.on_slots.batched as batched
 use Rattle.calls.proofs.call_text.put_answer as put-answer
 
 call-of-fixed : Fixed call-of.ended (λ M. call-of.clauses) call-of.Symbol.routine
@@ -16,6 +18,12 @@ all-closed-fixed M 𝓤 H 𝓜 𝓖 𝓡 = (all-closed.Met.met 𝓤 H 𝓜 𝓖 
 
 answered-fixed : Fixed answered.ended (λ M. answered.clauses) answered.Symbol.routine
 answered-fixed M 𝓤 H 𝓜 𝓖 𝓡 = (answered.Met.met 𝓤 H 𝓜 𝓖 𝓡, λ κs a. asks-nothing 𝓤, λ κs a g h r s v w. both one one alike)
+
+decoder-of-fixed : Fixed decoder-of.ended (λ M. decoder-of.clauses) decoder-of.Symbol.routine
+decoder-of-fixed M 𝓤 H 𝓜 𝓖 𝓡 = (decoder-of.Met.met 𝓤 H 𝓜 𝓖 𝓡, λ κs a. asks-nothing 𝓤, λ κs a g h r s v w. both one one alike)
+
+batched-fixed : Fixed batched.ended (λ M. batched.clauses) batched.Symbol.routine
+batched-fixed M 𝓤 H 𝓜 𝓖 𝓡 = (batched.Met.met 𝓤 H 𝓜 𝓖 𝓡, λ κs a. asks-nothing 𝓤, λ κs a g h r s v w. both one one alike)
 
 unwritten-fixed : Fixed unwritten.ended (λ M. unwritten.clauses) unwritten.Symbol.routine
 unwritten-fixed M 𝓤 H 𝓜 𝓖 𝓡 = (unwritten.Met.met 𝓤 H 𝓜 𝓖 𝓡, λ κs a. asks-nothing 𝓤, λ κs a g h r s v w. both one one alike)

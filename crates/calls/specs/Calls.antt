@@ -39,6 +39,16 @@ word64 = upTo (2 ^ 64 - 1)
 abbrev pub room : Range
 room = upTo 100
 
+-- a place of the lists of edges that wait; how many are handed over; the places of a column
+abbrev pub waiting : Range
+waiting = upTo 63
+
+abbrev pub handed : Range
+handed = upTo 64
+
+abbrev pub column : Range
+column = upTo 8
+
 abbrev pub polls : Range
 polls = (1, 1000000)
 
@@ -69,6 +79,8 @@ calls =
     ∷ call ("s" ∷ "e" ∷ "n" ∷ "d" ∷ []) (slot ∷ byte ∷ byte ∷ byte ∷ flag ∷ word32 ∷ word32 ∷ [])
     ∷ call ("c" ∷ "l" ∷ "o" ∷ "s" ∷ "e" ∷ "d" ∷ []) (word32 ∷ word32 ∷ byte ∷ byte ∷ room ∷ [])
     ∷ call ("m" ∷ "e" ∷ "a" ∷ "s" ∷ "u" ∷ "r" ∷ "e" ∷ []) (word32 ∷ word32 ∷ word64 ∷ [])
+    ∷ call ("w" ∷ "a" ∷ "i" ∷ "t" ∷ []) (waiting ∷ flag ∷ word32 ∷ [])
+    ∷ call ("b" ∷ "a" ∷ "t" ∷ "c" ∷ "h" ∷ []) (slot ∷ column ∷ handed ∷ handed ∷ [])
     ∷ []
 
 abbrev pub isIn : Range → ℕ → Bool

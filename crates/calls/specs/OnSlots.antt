@@ -8,12 +8,14 @@ use Rattle.polled.specs.Polled.{polledAt}
 use Rattle.answers.specs.Answers.{textOf}
 use Rattle.calls.specs.Parts.{alone}
 use Rattle.calls.specs.Phrases.{phraseOf}
+use Rattle.batches.specs.declared.Batched.{Batched}
 use Rattle.calls.specs.Slots.{calledOn}
+use Rattle.calls.specs.Batch.{batchOn}
 use Rattle.calls.specs.declared.on_slots.Slot.{Slot}
 use Rattle.calls.specs.declared.on_slots.Slots.{Slots}
 use Rattle.calls.specs.declared.slots.SlotAnswer.{SlotAnswer}
 
--- a slot before it is opened; no call reads its receiver
+-- a slot before it is opened; no answer hangs on its receiver
 abbrev pub closedSlot : Slot
 closedSlot = record { is_open = false; receiver = polledAt 1 1000000 .receiver }
 
@@ -25,13 +27,16 @@ allClosed = record { slots = replicate 16 closedSlot; parts = alone (textOf 0 0)
 abbrev pub placeOf : ℕ → ℕ → ℕ
 placeOf call slot = cond (leb 9 call && leb call 11) (slot % 8 + 8) (slot % 16)
 
+abbrev pub slotAt : Slots → ℕ → Slot
+slotAt slots place = getD (slots .slots) place closedSlot
+
 -- a call on the slot at a place has answered
 abbrev pub storedAt : Slots → ℕ → SlotAnswer → Slots
 storedAt slots place answer =
     record { slots = set (slots .slots) place (answer .slot); parts = answer .parts }
 
 abbrev pub answeredBy : ℕ → ℕ → List ℕ → Slots → Slots
-answeredBy call place n slots = storedAt slots place (calledOn call (getD (slots .slots) place closedSlot) n)
+answeredBy call place n slots = storedAt slots place (calledOn call (slotAt slots place) n)
 
 -- from open to counter, and send
 abbrev pub isOnSlot : ℕ → Bool
@@ -42,3 +47,10 @@ unfoldable pub answeredAt : ℕ → List ℕ → Slots → Slots
 answeredAt call n slots =
     cond (isOnSlot call) (answeredBy call (placeOf call (getD n 0 0)) n slots)
     (record { slots = slots .slots; parts = alone (phraseOf call n) })
+
+-- batch SLOT ROOM LEVELS DURATIONS: the slot, and the slots once the edges went to its decoder
+abbrev pub slotFor : List ℕ → Slots → Slot
+slotFor n slots = slotAt slots (getD n 0 0 % 16)
+
+unfoldable pub batchedAt : List ℕ → Slots → Batched → Slots
+batchedAt n slots b = storedAt slots (getD n 0 0 % 16) (batchOn (slotFor n slots) b)

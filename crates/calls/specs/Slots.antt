@@ -27,6 +27,10 @@ use Rattle.calls.specs.declared.slots.PollRun.{PollRun}
 abbrev pub heldBy : Parts → Polled → SlotAnswer
 heldBy parts receiver = record { slot = record { is_open = true; receiver = receiver }; parts = parts }
 
+-- a slot that is not open answers so, and stays
+abbrev pub closedBy : Slot → SlotAnswer
+closedBy slot = record { slot = slot; parts = alone notOpen }
+
 -- `open` and `polled`: a fresh receiver; refused, the slot as it was
 abbrev pub openedBy : Slot → PolledMade → SlotAnswer
 openedBy slot made =
@@ -120,4 +124,4 @@ calledOn call slot n =
     let a = getD n 1 0 % 2 ^ 32 in
     let b = getD n 2 0 % 2 ^ 32 in
     cond (eqb call 3 || eqb call 9) (openedBy slot (polledAt a b))
-    (cond (slot .is_open) (heldAt call (slot .receiver) a b n) (record { slot = slot; parts = alone notOpen }))
+    (cond (slot .is_open) (heldAt call (slot .receiver) a b n) (closedBy slot))

@@ -1,4 +1,5 @@
 // The calls of docs/CALLS.md, by their numbers from 0, and which of them a line is.
+mod batch;
 pub mod call_text;
 mod counters;
 pub mod on_frames;
@@ -46,8 +47,12 @@ pub const CLOSED: usize = 15;
 
 pub const MEASURE: usize = 16;
 
+pub const WAIT: usize = 17;
+
+pub const BATCH: usize = 18;
+
 // No call.
-pub const NONE: usize = 17;
+pub const NONE: usize = 19;
 
 // The names, their letters as digits of base 256.
 const SPANS_NAME: u64 = 0x7370616E73;
@@ -84,7 +89,11 @@ const CLOSED_NAME: u64 = 0x636C6F736564;
 
 const MEASURE_NAME: u64 = 0x6D656173757265;
 
-const NAMES: [u64; 17] = [
+const WAIT_NAME: u64 = 0x77616974;
+
+const BATCH_NAME: u64 = 0x6261746368;
+
+const NAMES: [u64; 19] = [
     SPANS_NAME,
     LOOKUP_NAME,
     ENCODE_NAME,
@@ -102,17 +111,19 @@ const NAMES: [u64; 17] = [
     SEND_NAME,
     CLOSED_NAME,
     MEASURE_NAME,
+    WAIT_NAME,
+    BATCH_NAME,
 ];
 
 // How many numbers follow the name.
-const COUNTS: [usize; 17] = [2, 3, 7, 3, 3, 3, 3, 1, 1, 3, 3, 2, 3, 1, 7, 5, 3];
+const COUNTS: [usize; 19] = [2, 3, 7, 3, 3, 3, 3, 1, 1, 3, 3, 2, 3, 1, 7, 5, 3, 3, 4];
 
 const LAST: u64 = 0xFFFFFFFF;
 
 const ANY: u64 = 0xFFFFFFFFFFFFFFFF;
 
 // The largest that each number may be; whatever stands after the numbers is not asked.
-const MOST: [[u64; 7]; 17] = [
+const MOST: [[u64; 7]; 19] = [
     [LAST, LAST, ANY, ANY, ANY, ANY, ANY],
     [LAST, LAST, ANY, ANY, ANY, ANY, ANY],
     [LAST, LAST, 255, 255, 255, 1, 100],
@@ -130,24 +141,26 @@ const MOST: [[u64; 7]; 17] = [
     [7, 255, 255, 255, 1, LAST, LAST],
     [LAST, LAST, 255, 255, 100, ANY, ANY],
     [LAST, LAST, ANY, ANY, ANY, ANY, ANY],
+    [63, 1, LAST, ANY, ANY, ANY, ANY],
+    [7, 8, 64, 64, ANY, ANY, ANY],
 ];
 
 fn name_at(call: usize) -> u64
-    requires { ⌜ call < 17 ⌝ }
+    requires { ⌜ call < 19 ⌝ }
     ensures { λ r. ⌜ r ≡ callAt call .name ⌝ }
 {
     NAMES[call]
 }
 
 fn count_at(call: usize) -> usize
-    requires { ⌜ call < 17 ⌝ }
+    requires { ⌜ call < 19 ⌝ }
     ensures { λ r. ⌜ (r ≡ length (callAt call .numbers)) × (r ≤ 7) ⌝ }
 {
     COUNTS[call]
 }
 
 fn most_at(call: usize, place: usize) -> u64
-    requires { ⌜ (call < 17) × (place < 7) ⌝ }
+    requires { ⌜ (call < 19) × (place < 7) ⌝ }
     ensures { λ r. ⌜ r ≡ rangeAt call place .1 ⌝ }
 {
     MOST[call][place]
@@ -155,14 +168,14 @@ fn most_at(call: usize, place: usize) -> u64
 
 // A poll is of one level at least; every other number may be 0.
 fn least_at(call: usize, place: usize) -> u64
-    requires { ⌜ (call < 17) × (place < 7) ⌝ }
+    requires { ⌜ (call < 19) × (place < 7) ⌝ }
     ensures { λ r. ⌜ r ≡ rangeAt call place .0 ⌝ }
 {
     if (call == POLL) & (place == 2) { 1 } else { 0 }
 }
 
 fn is_in(call: usize, place: usize, x: u64) -> bool
-    requires { ⌜ (call < 17) × (place < 7) ⌝ }
+    requires { ⌜ (call < 19) × (place < 7) ⌝ }
     ensures { λ r. ⌜ r ≡ isIn (rangeAt call place) x ⌝ }
 {
     (least_at(call, place) <= x) & (x <= most_at(call, place))
@@ -170,7 +183,7 @@ fn is_in(call: usize, place: usize, x: u64) -> bool
 
 // The numbers of a call are in their ranges.
 fn are_in(call: usize, n: &[u64; 8]) -> bool
-    requires { ⌜ call < 17 ⌝ }
+    requires { ⌜ call < 19 ⌝ }
     ensures { λ r. ⌜ r ≡ areFrom 0 (callAt call .numbers) (now (n .entry)) ⌝ }
 {
     let count = count_at(call);
@@ -186,14 +199,14 @@ fn are_in(call: usize, n: &[u64; 8]) -> bool
 
 // The line is a name and so many numbers.
 fn is_named(line: Line, call: usize) -> bool
-    requires { ⌜ call < 17 ⌝ }
+    requires { ⌜ call < 19 ⌝ }
     ensures { λ r. ⌜ r ≡ isNamed line (callAt call) ⌝ }
 {
     line.whole & (line.name == name_at(call)) & (line.count == count_at(call))
 }
 
 fn is_call(line: Line, n: &[u64; 8], call: usize) -> bool
-    requires { ⌜ call < 17 ⌝ }
+    requires { ⌜ call < 19 ⌝ }
     ensures { λ r. ⌜ r ≡ isCall line (now (n .entry)) (callAt call) ⌝ }
 {
     is_named(line, call) && are_in(call, n)
@@ -204,7 +217,7 @@ pub fn call_of(line: Line, n: &[u64; 8]) -> usize
     ensures { λ r. ⌜ r ≡ callOf line (now (n .entry)) ⌝ }
 {
     let mut call: usize = 0;
-    while call < 17 {
+    while call < 19 {
         if is_call(line, n, call) {
             return call;
         }

@@ -1,16 +1,19 @@
-// The calls on slots: open, event, total, edge, command, reset and send on a decoder, polled, poll and idle on a polled receiver, counter on both.
+// The calls on slots: open, event, total, edge, command, reset, send and batch on a decoder, polled, poll and idle on a polled receiver, counter on both.
+use crate::batch::batch_on;
 use crate::phrases::phrase_of;
 use crate::slots::SlotAnswer;
 use crate::slots::alone;
 use crate::slots::called;
 use answers::Phrase;
 use answers::text;
+use batches::Batched;
 use polled::Polled;
+use protocols::decoder::Decoder;
 ghost use mathlib.Core.Path.{_≡_};
 ghost use Prim.Native.Nat.{_<_};
-ghost use Rattle.calls.specs.OnSlots.{allClosed, placeOf, storedAt, answeredAt};
+ghost use Rattle.calls.specs.OnSlots.{allClosed, placeOf, slotAt, storedAt, answeredAt, slotFor, batchedAt};
 
-// A closed slot holds a receiver that no call asks.
+// A closed slot holds a receiver that no answer hangs on.
 pub struct Slot {
     pub is_open: bool,
     pub receiver: Polled,
@@ -57,6 +60,14 @@ fn place_of(call: usize, slot: u64) -> usize
     (slot % 16) as usize
 }
 
+// Each function that reads a slot by itself takes seconds more to prove.
+fn slot_at(slots: Slots, place: usize) -> Slot
+    requires { ⌜ place < 16 ⌝ }
+    ensures { λ r. ⌜ r ≡ slotAt slots place ⌝ }
+{
+    slots.slots[place]
+}
+
 // A call on the slot at a place has answered.
 fn stored(slots: Slots, place: usize, answer: SlotAnswer) -> Slots
     requires { ⌜ place < 16 ⌝ }
@@ -76,10 +87,26 @@ pub fn answered(call: usize, n: &[u64; 8], slots: Slots) -> Slots
 {
     if (crate::OPEN <= call) & (call <= crate::COUNTER) | (call == crate::SEND) {
         let place = place_of(call, n[0]);
-        let slot = slots.slots[place];
-        return stored(slots, place, called(call, slot, n));
+        return stored(slots, place, called(call, slot_at(slots, place), n));
     }
     let mut after = slots;
     after.parts = alone(phrase_of(call, n));
     after
+}
+
+// batch SLOT ROOM LEVELS DURATIONS: the decoder that the edges go to.
+pub fn decoder_of(n: &[u64; 8], slots: Slots) -> Decoder
+    ensures { λ r. ⌜ r ≡ slotFor (now (n .entry)) slots .receiver .decoder ⌝ }
+{
+    let slot = slot_at(slots, place_of(crate::BATCH, n[0]));
+    let receiver = slot.receiver;
+    receiver.decoder
+}
+
+// The same call, once the edges went to that decoder.
+pub fn batched(n: &[u64; 8], slots: Slots, b: Batched) -> Slots
+    ensures { λ r. ⌜ r ≡ batchedAt (now (n .entry)) slots b ⌝ }
+{
+    let place = place_of(crate::BATCH, n[0]);
+    stored(slots, place, batch_on(slot_at(slots, place), b))
 }

@@ -1,4 +1,4 @@
-// What a call that asks no slot answers, where that is one phrase. Spans, encode, closed and measure have an empty one here: the program puts what they answer.
+// What a call that asks no slot answers, where that is one phrase. Spans, encode, closed and measure have an empty one here: the program puts what they answer. So has batch, which `batched` answers.
 use answers::Phrase;
 use answers::is_taken;
 use answers::not_understood;
@@ -44,7 +44,10 @@ pub fn phrase_of(call: usize, n: &[u64; 8]) -> Phrase
     if call == crate::BOUNDS {
         return bounds_of(low_32(n[0]));
     }
-    if (call < crate::OPEN) | (call == crate::CLOSED) | (call == crate::MEASURE) {
+    if call == crate::WAIT {
+        return text(answers::WAITS, 0);
+    }
+    if (call < crate::OPEN) | (crate::CLOSED <= call) & (call <= crate::BATCH) {
         return text(0, 0);
     }
     not_understood()

@@ -18,7 +18,7 @@ use text::words::low_32;
 ghost use mathlib.Core.Path.{_≡_};
 ghost use Rattle.polled.specs.Polled.{polledAt};
 ghost use Rattle.calls.specs.Parts.{alone, headed};
-ghost use Rattle.calls.specs.Slots.{answering, heldBy, openedBy, edgeBy, askedAt, firstOf, polledAgain, pollsAt, heldAt, calledOn};
+ghost use Rattle.calls.specs.Slots.{answering, heldBy, closedBy, withDecoder, openedBy, edgeBy, askedAt, firstOf, polledAgain, pollsAt, heldAt, calledOn};
 
 // What a call on a decoder answers, and the decoder after it.
 pub struct DecoderAnswer {
@@ -79,6 +79,25 @@ fn holding(parts: Parts, receiver: Polled) -> SlotAnswer
         receiver,
     };
     SlotAnswer { slot, parts }
+}
+
+// A slot that is not open answers so, and stays.
+pub fn closed(slot: Slot) -> SlotAnswer
+    ensures { λ r. ⌜ r ≡ closedBy slot ⌝ }
+{
+    let parts = alone(not_open());
+    SlotAnswer { slot, parts }
+}
+
+// A receiver goes on with the decoder after a call on that.
+pub fn going_on(receiver: Polled, one: DecoderAnswer) -> SlotAnswer
+    ensures { λ r. ⌜ r ≡ withDecoder receiver one ⌝ }
+{
+    let mut receiver = receiver;
+    let decoder = one.decoder;
+    receiver.decoder = decoder;
+    let parts = one.parts;
+    holding(parts, receiver)
 }
 
 // A refused open leaves the slot as it was.
@@ -185,17 +204,13 @@ fn held(call: usize, receiver: Polled, a: u32, b: u32, n: &[u64; 8]) -> SlotAnsw
         let receiver = run.receiver;
         return holding(alone(of_report(report)), receiver);
     }
-    let mut receiver = receiver;
     if call == crate::IDLE {
+        let mut receiver = receiver;
         receiver.clock = std::num::wrapping_add_u32(receiver.clock, a);
         return holding(alone(text(answers::IDLE, 0)), receiver);
     }
     let decoder = receiver.decoder;
-    let one = asked(call, decoder, a, b, n);
-    let decoder = one.decoder;
-    receiver.decoder = decoder;
-    let parts = one.parts;
-    holding(parts, receiver)
+    going_on(receiver, asked(call, decoder, a, b, n))
 }
 
 // A call on a slot, with its numbers.
@@ -211,6 +226,5 @@ pub fn called(call: usize, slot: Slot, n: &[u64; 8]) -> SlotAnswer
         let receiver = slot.receiver;
         return held(call, receiver, a, b, n);
     }
-    let parts = alone(not_open());
-    SlotAnswer { slot, parts }
+    closed(slot)
 }

@@ -23,4 +23,5 @@ pub mod Feeding
 pub mod Room
 pub mod Deviations
 pub mod SentHeard
+pub mod HeardInBatch
 pub mod Determined

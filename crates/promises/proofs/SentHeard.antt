@@ -74,10 +74,10 @@ only-heard mayReport count reporting first command decoder (r ∷ reports) h may
     rw (rest, only-noted count reporting command h) (record { first = rw same may; edge = refl; report = refl; others = refl })
 
 -- the edge that settles the last bit is not the first
-under : {n : ℕ} → 14 ≤ n → 2 ≤ n
+pub under : {n : ℕ} → 14 ≤ n → 2 ≤ n
 under h = omega arith
 
-before-last : {n : ℕ} (bit : Bool) → 26 ≤ n → 2 ≤ n - cond bit 0 1
+pub before-last : {n : ℕ} (bit : Bool) → 26 ≤ n → 2 ≤ n - cond bit 0 1
 before-last true h = omega arith
 before-last false h = omega arith
 

@@ -1,4 +1,5 @@
 pub mod Heard
+pub mod HeardInBatch
 pub mod Impostors
 pub mod Send
 pub mod Totals

@@ -6,6 +6,7 @@ use Rattle.refusals.proofs.encode_taken as encode-taken
 use Rattle.refusals.proofs.closed_taken as closed-taken
 use Rattle.refusals.proofs.rate_taken as rate-taken
 use Rattle.refusals.proofs.of_build as of-build
+use Rattle.refusals.proofs.of_lists as of-lists
 
 is-within-fixed : Fixed is-within.ended (λ M. is-within.clauses) is-within.Symbol.routine
 is-within-fixed M 𝓤 H 𝓜 𝓖 𝓡 = (is-within.Met.met 𝓤 H 𝓜 𝓖 𝓡, λ κs a. asks-nothing 𝓤, λ κs a g h r s v w. both one one alike)
@@ -24,3 +25,6 @@ rate-taken-fixed M 𝓤 H 𝓜 𝓖 𝓡 = (rate-taken.Met.met 𝓤 H 𝓜 𝓖 
 
 of-build-fixed : Fixed of-build.ended (λ M. of-build.clauses) of-build.Symbol.routine
 of-build-fixed M 𝓤 H 𝓜 𝓖 𝓡 = (of-build.Met.met 𝓤 H 𝓜 𝓖 𝓡, λ κs a. asks-nothing 𝓤, λ κs a g h r s v w. both one one alike)
+
+of-lists-fixed : Fixed of-lists.ended (λ M. of-lists.clauses) of-lists.Symbol.routine
+of-lists-fixed M 𝓤 H 𝓜 𝓖 𝓡 = (of-lists.Met.met 𝓤 H 𝓜 𝓖 𝓡, λ κs a. asks-nothing 𝓤, λ κs a g h r s v w. both one one alike)

@@ -20,6 +20,10 @@ badRate = 1
 abbrev pub pastEnd : ℕ
 pastEnd = 4
 
+-- document 02, request 01: "the two lists differ in length, tested after 4"
+abbrev pub unlikeLists : ℕ
+unlikeLists = 5
+
 -- "buffer shorter than the frame"
 abbrev pub shortBuffer : ℕ
 shortBuffer = 3
@@ -56,7 +60,9 @@ inOrder tests refused taken =
     cond (passes tests badProtocol)
     (cond (passes tests badRate)
     (cond (passes tests pastEnd)
+    (cond (passes tests unlikeLists)
     (cond (passes tests shortBuffer) taken (refused shortBuffer))
+    (refused unlikeLists))
     (refused pastEnd))
     (refused badRate))
     (refused badProtocol)
@@ -72,3 +78,7 @@ frameTests rate room length = (badRate, rateTaken rate) ∷ (shortBuffer, leb le
 -- the same of a protocol that is taken, or not
 abbrev pub encodeTests : Bool → ℕ → ℕ → ℕ → Tests
 encodeTests taken rate room length = (badProtocol, taken) ∷ frameTests rate room length
+
+-- edges are handed over as two lists of so many levels and durations, to a decoder that is not past its end, or is
+abbrev pub listTests : Bool → (levels durations : ℕ) → Tests
+listTests inReach levels durations = (pastEnd, inReach) ∷ (unlikeLists, eqb levels durations) ∷ []

@@ -1,6 +1,7 @@
 // Document 01, "Refusal numbers": the numbers by name, which protocol numbers and rates are taken, and the order of the tests.
 ghost use mathlib.Core.Path.{_≡_};
-ghost use Rattle.refusals.specs.Refusals.{none, within, protocolTaken, encodeTaken, closedTaken, rateTaken, inOrder, buildTests};
+ghost use mathlib.Core.Bool.{not};
+ghost use Rattle.refusals.specs.Refusals.{none, within, protocolTaken, encodeTaken, closedTaken, rateTaken, inOrder, buildTests, listTests};
 
 // Nothing is refused.
 pub const NONE: u32 = 0;
@@ -16,6 +17,9 @@ pub const SHORT_BUFFER: u32 = 3;
 
 // A decoder's bit counter is past its end.
 pub const PAST_END: u32 = 4;
+
+// Two lists that differ in length.
+pub const UNLIKE_LISTS: u32 = 5;
 
 // The last rate at which 444 × rate fits 32 bits.
 const LAST_RATE: u32 = 9673349;
@@ -67,6 +71,19 @@ pub fn of_build(protocol: u32, rate: u32) -> u32
     }
     if !rate_taken(rate) {
         return BAD_RATE;
+    }
+    NONE
+}
+
+// The refusal of edges that are handed over as two lists.
+pub fn of_lists(past_end: bool, levels: usize, durations: usize) -> u32
+    ensures { λ r. ⌜ r ≡ inOrder (listTests (not «past_end») levels durations) (λ number. number) none ⌝ }
+{
+    if past_end {
+        return PAST_END;
+    }
+    if levels != durations {
+        return UNLIKE_LISTS;
     }
     NONE
 }

@@ -1,5 +1,6 @@
 // Reads calls, one to a line, from standard input and prints the answer to each, a line.
 // docs/CALLS.md lists the calls and their answers.
+mod on_batches;
 mod on_frames;
 mod on_spans;
 
@@ -7,10 +8,14 @@ use calls::call_of;
 use calls::call_text::put_answer;
 use calls::on_slots::Parts;
 use calls::on_slots::all_closed;
-use calls::on_slots::answered;
 use libc::STDERR_FILENO;
 use libc::STDIN_FILENO;
 use libc::STDOUT_FILENO;
+use on_batches::Columns;
+use on_batches::none_waits;
+use on_batches::put_batched;
+use on_batches::stepped;
+use on_batches::waiting_after;
 use on_frames::put_encode_call;
 use on_spans::put_spans_call;
 use text::put;
@@ -45,19 +50,36 @@ fn flushed(text: &[u8], at: usize, room: usize) -> usize {
     at
 }
 
-fn put_call_answer(text: &mut [u8], at: usize, call: usize, n: &[u64; 8], parts: Parts) -> usize {
+fn put_call_answer(
+    text: &mut [u8],
+    at: usize,
+    call: usize,
+    n: &[u64; 8],
+    parts: Parts,
+    columns: Columns,
+) -> usize {
     if (call == calls::SPANS) | (call == calls::MEASURE) {
         return put_spans_call(text, at, call, n);
     }
     if (call == calls::ENCODE) | (call == calls::CLOSED) {
         return put_encode_call(text, at, call, n);
     }
+    if call == calls::BATCH {
+        return put_batched(text, at, parts, columns, n[1]);
+    }
     put_answer(text, at, parts)
 }
 
 // A line of output.
-fn put_line(text: &mut [u8], at: usize, call: usize, n: &[u64; 8], parts: Parts) -> usize {
-    let next = put_call_answer(text, at, call, n, parts);
+fn put_line(
+    text: &mut [u8],
+    at: usize,
+    call: usize,
+    n: &[u64; 8],
+    parts: Parts,
+    columns: Columns,
+) -> usize {
+    let next = put_call_answer(text, at, call, n, parts, columns);
     let next = put(text, next, b'\n');
     flushed(text, next, 4096)
 }
@@ -111,6 +133,7 @@ fn read_line(buf: &mut [u8], start: Input, numbers: &mut [u64; 8]) -> Reading {
 fn read_all(text: &mut [u8], numbers: &mut [u64; 8], buf: &mut [u8]) -> usize {
     let mut at: usize = 0;
     let mut slots = all_closed();
+    let mut waiting = none_waits();
     let mut input = Input {
         at: 0,
         end: 0,
@@ -127,9 +150,12 @@ fn read_all(text: &mut [u8], numbers: &mut [u64; 8], buf: &mut [u8]) -> usize {
             return at;
         }
         let call = call_of(line, numbers);
-        slots = answered(call, numbers, slots);
+        waiting = waiting_after(call, numbers, waiting);
+        let one = stepped(call, numbers, slots, waiting);
+        slots = one.slots;
         let parts = slots.parts;
-        at = put_line(text, at, call, numbers, parts);
+        let columns = one.columns;
+        at = put_line(text, at, call, numbers, parts, columns);
         if (text.len() < at) | input.is_end {
             return at;
         }

@@ -1,13 +1,19 @@
-// What seat firmware in C calls: encoding and lookup over plain numbers and slices. include/dorzhimu_seat.h has the prototypes and what the caller owes.
-// Each call returns 0 or document 01's refusal number, and stores its result in numbers that the caller lends. Refusals 2 and 1 store nothing.
+// What seat firmware in C calls: encoding, lookup and edges by the handful, over plain numbers and slices. include/dorzhimu_seat.h has the prototypes and what
+// the caller owes.
+// Each call returns 0 or document 01's refusal number, and stores its result in what the caller lends. A refusal stores nothing, except that 3 stores the length needed.
 use frames::Encoded;
 use spans::Answer;
 use spans::Found;
+use typed_batches::Reason;
 ghost use mathlib.Core.Path.{_≡_};
 ghost use Rattle.refusals.specs.Refusals.{closedTaken};
 ghost use Rattle.frames.specs.Frames.{encodedNumber};
+ghost use Rattle.spans.specs.Spans.{refusalNumber};
+ghost use Rattle.protocols.specs.Decoder.{madeBy};
 ghost use Rattle.protocols.specs.Encoder.{frameBy, encodedBy, leftBy, closedBy, encodedIf, leftIf};
-ghost use Rattle.seat.specs.Seat.{lengthAfter, lookedUp, lookupNumber, placeAfter, differenceAfter};
+ghost use Rattle.typed_batches.specs.Columns.{edgesLeft, kindsLeft, valuesLeft};
+ghost use Rattle.seat.specs.Seat.{lengthAfter, lookedUp, lookupNumber, placeAfter, differenceAfter, openedAfter, edgesTaken, isRefused, reasonNumber, receiverAfter, usedAfter, countAfter};
+ghost use Rattle.seat_numbers.specs.Receiver.{numbersOf};
 
 // What a call on frames returns and stores of an encoder's answer.
 fn told(encoded: Encoded, length: &mut usize) -> u32
@@ -125,4 +131,81 @@ pub extern "C" fn seat_measure(
         }
         LookedUp::Refused(number) => number,
     }
+}
+
+// A fresh receiver of a protocol, 1 to 5, at a rate, as numbers that the caller keeps. Refusals: 2, then 1; `receiver` is then as it was.
+#[no_mangle]
+pub extern "C" fn seat_open(protocol: u32, rate: u32, receiver: &mut [u32; 32]) -> u32
+    ensures number { λ r. ⌜ r ≡ refusalNumber (madeBy protocol rate .answer) ⌝ }
+    ensures receiver { λ _. ⌜ now (receiver .exit) ≡ openedAfter (madeBy protocol rate .answer) (numbersOf (madeBy protocol rate .decoder)) (now (receiver .entry)) ⌝ }
+{
+    let built = spans::spans_of(protocol, rate);
+    let answer = built.answer;
+    let spans = built.spans;
+    match answer {
+        Answer::Taken => {
+            seat_numbers::put_fresh(receiver, protocol, spans);
+            refusals::NONE
+        }
+        Answer::Refused(number) => number,
+    }
+}
+
+// Whether a batch was refused.
+fn is_refused(reason: Reason) -> bool
+    ensures { λ r. ⌜ r ≡ isRefused reason ⌝ }
+{
+    match reason {
+        Reason::AllUsed => false,
+        Reason::NoRoom => false,
+        Reason::Refused(_) => true,
+    }
+}
+
+// The number that a call with edges returns.
+fn reason_number(reason: Reason) -> u32
+    ensures { λ r. ⌜ r ≡ reasonNumber reason ⌝ }
+{
+    match reason {
+        Reason::AllUsed => refusals::NONE,
+        Reason::NoRoom => refusals::NONE,
+        Reason::Refused(number) => number,
+    }
+}
+
+// Edges by the handful, for the receiver that the caller keeps. Refusals: 2, 4, then 5; all that is lent is then as it was.
+// `used` receives the number of edges used, fewer than there are where the next answer has no place, and `count` the number of answers.
+#[no_mangle]
+pub extern "C" fn seat_edges(
+    receiver: &mut [u32; 32],
+    levels: &[bool],
+    durations: &[u32],
+    edges: &mut [usize],
+    kinds: &mut [u32],
+    values: &mut [u64],
+    used: &mut usize,
+    count: &mut usize,
+) -> u32
+    ensures { λ r. ⌜ (let h = edgesTaken (now (receiver .entry)) (now (levels .entry)) (now (durations .entry)) (now (edges .entry)) (now (kinds .entry)) (now (values .entry)) in
+        (r ≡ reasonNumber (h .reason)) × (now (receiver .exit) ≡ receiverAfter (now (receiver .entry)) h)
+        × (now (edges .exit) ≡ edgesLeft (h .answers) (now (edges .entry))) × (now (kinds .exit) ≡ kindsLeft (h .answers) (now (kinds .entry)))
+        × (now (values .exit) ≡ valuesLeft (h .answers) (now (values .entry)))
+        × (now (used .exit) ≡ usedAfter (now (used .entry)) h) × (now (count .exit) ≡ countAfter (now (count .entry)) h)) ⌝ }
+{
+    let protocol = receiver[0];
+    if !refusals::protocol_taken(protocol) {
+        return refusals::BAD_PROTOCOL;
+    }
+    let decoder = seat_numbers::decoder_from(receiver);
+    let batched = batches::batch(decoder, levels, durations, edges, kinds, values);
+    let reason = batched.reason;
+    if is_refused(reason) {
+        return reason_number(reason);
+    }
+    let after = batched.decoder;
+    let memory = after.memory;
+    seat_numbers::put_memory(receiver, memory);
+    *used = batched.used;
+    *count = batched.count;
+    refusals::NONE
 }

@@ -17,10 +17,10 @@ returns-2 c =
 
 returns-3 : tie.Need-returns-3
 returns-3 c =
-    let closed = c .before .before in
+    let closed = c .before in
     let test = closed .before in
     let second = test .before in
-    closed-is _ _ _ (second .before .before .low-32 .ensures) (second .low-322 .ensures) (test .if1 .left) (closed .if2 .left) (c .before .not-open .ensures) (c .alone .ensures)
+    closed-is _ _ _ (second .before .before .low-32 .ensures) (second .low-322 .ensures) (test .if1 .left) (closed .if2 .left) (c .closed .ensures)
 
 pub called-spec : {M : Type 1} → statement M
 called-spec =
@@ -34,6 +34,5 @@ called-spec =
     returns
     (λ c κs. tt)
     returns-2
-    (λ c κs. tt)
     (λ c κs. tt)
     returns-3)

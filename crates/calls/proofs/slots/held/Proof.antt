@@ -16,9 +16,9 @@ returns-2 c =
 
 returns-3 : tie.Need-returns-3
 returns-3 c =
-    let asked = c .before .before .before in
+    let asked = c .before in
     let test = asked .before .before in
-    decoder-is _ _ _ _ _ (ne-eqb _ _ (test .before .if1 .left)) (ne-eqb _ _ (test .if2 .left)) (asked .asked .ensures) (c .holding3 .ensures)
+    decoder-is _ _ _ _ _ (ne-eqb _ _ (test .before .if1 .left)) (ne-eqb _ _ (test .if2 .left)) (asked .asked .ensures) (c .going-on .ensures)
 
 pub held-spec : {M : Type 1} → statement M
 held-spec =
