@@ -17,9 +17,11 @@ use Rattle.reports.specs.Machine.{Machine, runReports, runAfter}
 use Rattle.reports.specs.Reports.{Numbers, reportNumbers}
 use Rattle.reports.specs.declared.Report.{Report}
 use Rattle.reports.specs.declared.Report.the-variants as report
-use Rattle.nec.specs.Decoder.{pastEnd, machine}
+use Rattle.nec.specs.Decoder as necRules
 use Rattle.nec.proofs.Laws as nec
+use Rattle.rc5.specs.Decoder as rc5Rules
 use Rattle.rc5.proofs.Laws as rc5
+use Rattle.rc6.specs.Decoder as rc6Rules
 use Rattle.rc6.proofs.Laws as rc6
 use Rattle.rc5_encoder.proofs.Frame as rc5Frame
 use Rattle.rc6_encoder.proofs.Frame as rc6Frame
@@ -138,10 +140,16 @@ module _ (M : Machine) (spans : Spans) where
 not-refused : (past : Bool) → past ≡ false → _≡_ {A = ℕ} (cond past 4 0) 0
 not-refused past e = rw e
 
-nec-taken : (earlier : List Edge) → machine .refusal (runAfter machine (spansAt1MHz 1) (machine .fresh) earlier) ≡ 0
+nec-taken : (earlier : List Edge) → necRules.machine .refusal (runAfter necRules.machine (spansAt1MHz 1) (necRules.machine .fresh) earlier) ≡ 0
 nec-taken earlier =
-    let state = runAfter machine (spansAt1MHz 1) (machine .fresh) earlier .state in
-    not-refused (pastEnd state) (nec.reachable-in-reach state (nec.run-reachable (spansAt1MHz 1) earlier))
+    let state = runAfter necRules.machine (spansAt1MHz 1) (necRules.machine .fresh) earlier .state in
+    not-refused (necRules.pastEnd state) (nec.reachable-in-reach state (nec.run-reachable (spansAt1MHz 1) earlier))
+
+rc5-taken : (earlier : List Edge) → rc5Rules.machine .refusal (runAfter rc5Rules.machine (spansAt1MHz 2) (rc5Rules.machine .fresh) earlier) ≡ 0
+rc5-taken earlier = rc5.reachable-taken (runAfter rc5Rules.machine (spansAt1MHz 2) (rc5Rules.machine .fresh) earlier) (rc5.run-reachable (spansAt1MHz 2) earlier)
+
+rc6-taken : (earlier : List Edge) → rc6Rules.machine .refusal (runAfter rc6Rules.machine (spansAt1MHz 3) (rc6Rules.machine .fresh) earlier) ≡ 0
+rc6-taken earlier = rc6.reachable-taken (runAfter rc6Rules.machine (spansAt1MHz 3) (rc6Rules.machine .fresh) earlier) (rc6.run-reachable (spansAt1MHz 3) earlier)
 
 pub nec-in-batch : EveryNecInBatch
 nec-in-batch addr cmd a c =
@@ -149,10 +157,10 @@ nec-in-batch addr cmd a c =
 
 pub rc5-in-batch : EveryRc5InBatch
 rc5-in-batch addr cmd start toggle a c low high =
-    in-batch _ _ _ _ _ _ _ _ (under (rc5Frame.at-least _ _)) (λ earlier. rc5.reachable-taken _ (rc5.run-reachable (spansAt1MHz 2) earlier))
+    in-batch _ _ _ _ _ _ _ _ (under (rc5Frame.at-least _ _)) rc5-taken
     (rc5-heard addr cmd start toggle a c low high)
 
 pub rc6-in-batch : EveryRc6InBatch
 rc6-in-batch addr cmd toggle a c =
-    in-batch _ _ _ _ _ _ _ _ (before-last (bitSet cmd 0) (rc6Frame.at-least _ toggle _)) (λ earlier. rc6.reachable-taken _ (rc6.run-reachable (spansAt1MHz 3) earlier))
+    in-batch _ _ _ _ _ _ _ _ (before-last (bitSet cmd 0) (rc6Frame.at-least _ toggle _)) rc6-taken
     (rc6-heard addr cmd toggle a c)
