@@ -1,14 +1,16 @@
 //! The crate's side: the same edges through its decoders' event_total, and the same number from its reports.
 //! bench/run puts this file among the crate's own, so that all of it is one compilation. Each event_total has one caller: polls are a compilation
-//! of their own.
+//! of their own, and with the option `guarded` NEC in guarded mode stands in NEC's place.
 
 use crate::protocol::denon::DenonCommand;
+use crate::protocol::nec::decoder::NecDecoder;
 use crate::protocol::nec::NecCommand;
 use crate::protocol::rc5::Rc5Command;
 use crate::protocol::rc6::Rc6Command;
 use crate::protocol::sbp::SbpCommand;
-use crate::protocol::{Denon, Nec, Rc5, Rc6, Sbp};
-use crate::receiver::{DecoderFactory, DecodingError, PeriodicPoll, ProtocolDecoder};
+use crate::protocol::{Denon, Nec, Protocol, Rc5, Rc6, Sbp};
+use crate::receiver::time::PulseSpans;
+use crate::receiver::{DecoderFactory, DecodingError, PeriodicPoll, ProtocolDecoder, State};
 use crate::sender::ProtocolEncoder;
 
 #[panic_handler]
@@ -72,6 +74,56 @@ fn add<C: Code>(sum: u64, report: Result<Option<C>, DecodingError>) -> u64 {
     }
 }
 
+/// NEC in guarded mode, which the crate does not have: its NEC decoder, and the mark beside it.
+struct Guarded;
+
+struct GuardedDecoder {
+    nec: NecDecoder<u32>,
+    mark: bool,
+}
+
+impl Protocol for Guarded {
+    type Cmd = NecCommand;
+}
+
+impl DecoderFactory<u32> for Guarded {
+    type Decoder = GuardedDecoder;
+
+    fn decoder(rate: u32) -> GuardedDecoder {
+        GuardedDecoder { nec: <Nec as DecoderFactory<u32>>::decoder(rate), mark: false }
+    }
+}
+
+/// A sync clears the mark, and it stays clear until the frame ends: so it is cleared at each edge of a frame, and the state before the edge is not asked for.
+impl ProtocolDecoder<u32, NecCommand> for GuardedDecoder {
+    fn event(&mut self, rising: bool, duration: u32) -> State {
+        let state = self.nec.event(rising, duration);
+        match state {
+            State::Receiving => self.mark = false,
+            State::Done if self.command().map_or(false, |command| command.repeat) => {
+                if !self.mark {
+                    return State::Error(DecodingError::Data);
+                }
+            }
+            State::Done => self.mark = true,
+            _ => {}
+        }
+        state
+    }
+
+    fn command(&self) -> Option<NecCommand> {
+        self.nec.command()
+    }
+
+    fn reset(&mut self) {
+        self.nec.reset()
+    }
+
+    fn spans(&self) -> &PulseSpans<u32> {
+        self.nec.spans()
+    }
+}
+
 #[cfg(not(polls))]
 fn run<P: DecoderFactory<u32>>(durations: &[u32], rate: u32) -> u64
 where
@@ -127,9 +179,18 @@ macro_rules! exported {
     };
 }
 
-#[cfg(not(any(polls, seat)))]
+#[cfg(not(any(polls, guarded, seat)))]
 exported! {
     Nec, crate_nec crate_record_nec;
+}
+
+#[cfg(all(guarded, not(polls)))]
+exported! {
+    Guarded, crate_guarded crate_record_guarded;
+}
+
+#[cfg(not(any(polls, seat)))]
+exported! {
     Rc5, crate_rc5 crate_record_rc5;
     Rc6, crate_rc6 crate_record_rc6;
     Sbp, crate_sbp crate_record_sbp;
@@ -149,9 +210,18 @@ macro_rules! exported {
     };
 }
 
-#[cfg(polls)]
+#[cfg(all(polls, not(guarded)))]
 exported! {
     Nec, crate_polls_nec crate_polled_record_nec;
+}
+
+#[cfg(all(polls, guarded))]
+exported! {
+    Guarded, crate_polls_guarded crate_polled_record_guarded;
+}
+
+#[cfg(polls)]
+exported! {
     Rc5, crate_polls_rc5 crate_polled_record_rc5;
     Rc6, crate_polls_rc6 crate_polled_record_rc6;
     Sbp, crate_polls_sbp crate_polled_record_sbp;

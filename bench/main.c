@@ -1,9 +1,9 @@
 /* The driver of bench/run: makes edges, commands or levels and hands them to one side.
  *   main SIDE KIND PROTOCOL COUNT
  * SIDE is ours or crate; for polls also typed: ours, with the protocol's own receiver; for edges also batch or typedbatch: ours by the handful, with the batch by number or the
- * protocol's own. KIND is frames or noise: edges, at 1 MHz, the first one rising; build: decoders, handed no edge; encode: commands; quiet, changing or polled: levels, at 40 kHz, that
- * never change, change at each poll, or are those of the frames. COUNT is how many of them are handed over; prints the number that the reports, or the lengths of the
- * encoded frames, come to. Both sides get the same. All is made whatever the COUNT, so that between two COUNTs only the work differs.
+ * protocol's own. KIND is frames, noise or held: edges, at 1 MHz, the first one rising, of frames, of any size, of NEC's frames and repeats; build: decoders, handed no edge; encode:
+ * commands; quiet, changing or polled: levels, at 40 kHz, that never change, change at each poll, or are those of the frames. COUNT is how many of them are handed over; prints the
+ * number that the reports, or the lengths of the encoded frames, come to. Both sides get the same. All is made whatever the COUNT, so that between two COUNTs only the work differs.
  *   main SIDE KIND PROTOCOL stack
  * Prints how many bytes of stack the call takes.
  *   main crate record PROTOCOL 0, main crate polledrecord PROTOCOL 0
@@ -28,15 +28,15 @@ typedef uint64_t run_batches(const bool *rising, size_t rises, const uint32_t *d
 typedef uint64_t run_polls(const uint8_t *levels, size_t count, uint32_t protocol, uint32_t rate);
 typedef size_t encode_frame(uint8_t addr, uint8_t cmd, uint8_t start, bool toggle, uint32_t rate, uint32_t *frame, size_t room);
 
-run_polls bench_polls;
-run_batches bench_batches;
+run_polls bench_polls, bench_guarded_polls;
+run_batches bench_batches, bench_guarded_batches;
 #define SIDES(name) \
     run_edges bench_##name, crate_##name; \
     run_batches bench_batch_##name; \
     run_polls bench_typed_##name, crate_polls_##name; \
     encode_frame bench_encode_##name, crate_encode_##name; \
     extern const size_t crate_record_##name, crate_polled_record_##name;
-SIDES(nec) SIDES(rc5) SIDES(rc6) SIDES(sbp) SIDES(denon)
+SIDES(nec) SIDES(rc5) SIDES(rc6) SIDES(sbp) SIDES(denon) SIDES(guarded)
 
 static uint32_t edges[ROOM + 256];
 static size_t made;
@@ -123,7 +123,9 @@ struct row {
     void (*frame)(void);
 };
 
-#define RUNS(name) #name, {bench_##name, crate_##name}, {bench_polls, crate_polls_##name, bench_typed_##name}, {bench_batches, bench_batch_##name}, &crate_record_##name, &crate_polled_record_##name
+#define RUNS_BY(name, polls, batches) \
+    #name, {bench_##name, crate_##name}, {polls, crate_polls_##name, bench_typed_##name}, {batches, bench_batch_##name}, &crate_record_##name, &crate_polled_record_##name
+#define RUNS(name) RUNS_BY(name, bench_polls, bench_batches)
 
 static const struct row rows[] = {
     {RUNS(nec), {bench_encode_nec, crate_encode_nec}, nec_frame},
@@ -131,12 +133,26 @@ static const struct row rows[] = {
     {RUNS(rc6), {bench_encode_rc6, crate_encode_rc6}, rc6_frame},
     {RUNS(sbp), {0}, sbp_frame},
     {RUNS(denon), {0}, denon_frame},
+    {RUNS_BY(guarded, bench_guarded_polls, bench_guarded_batches), {0}, nec_frame},
 };
 
 static void make_frames(const struct row *row) {
     while (made < ROOM) {
         silence();
         row->frame();
+    }
+}
+
+/* NEC's frames, each with the repeats of a held key, up to seven; one frame in four is broken, by a pulse that is no bit, and its repeats follow all the same */
+static void make_held(void) {
+    while (made < ROOM) {
+        silence();
+        nec_frame();
+        if (!below(4)) edges[made - 1 - 2 * below(32)] += 3000;
+        for (uint32_t left = below(8); left; left--) {
+            silence();
+            pulse(9000, 2250, 28);
+        }
     }
 }
 
@@ -253,6 +269,7 @@ static void make(const struct row *row, const char *kind) {
     if (!strcmp(kind, "quiet") || !strcmp(kind, "build")) return;
     if (!strcmp(kind, "changing")) make_changes();
     else if (!strcmp(kind, "noise")) make_noise();
+    else if (!strcmp(kind, "held")) make_held();
     else if (!strcmp(kind, "encode")) {
         make_commands(row);
         hold_frames(row);

@@ -41,7 +41,8 @@
  *             heard(kinds[i], values[i]);
  *
  * `uint32_t receiver[SEAT_RECEIVER]` is kept between the wakes. One call makes
- * it: seat_open(SEAT_NEC, 1000000, receiver).
+ * it: seat_open(SEAT_NEC, 1000000, receiver). A unit that is not to act on a held
+ * key after a broken frame calls seat_open_guarded(1000000, receiver) instead.
  *
  * WHAT THE CALLER OWES
  *
@@ -52,9 +53,9 @@
  *  - `frame` points to `room` places that may be written. `length`, `place` and
  *    `difference` point to one number each. What they point to need hold nothing
  *    before the call. All are aligned as their types ask, and none is null.
- *  - `receiver` points to `SEAT_RECEIVER` numbers. For seat_open they need hold
- *    nothing. For seat_edges any numbers will do: what is not a receiver's is
- *    taken for one, or refused.
+ *  - `receiver` points to `SEAT_RECEIVER` numbers. For seat_open and
+ *    seat_open_guarded they need hold nothing. For seat_edges any numbers will do:
+ *    what is not a receiver's is taken for one, or refused.
  *  - `levels`, `durations`, `edges`, `kinds` and `values` point to as many places
  *    as the count after each says; the last three may be written. Each of
  *    `levels` is a `bool`, 0 or 1. `used` and `count` point to one number each.
@@ -91,13 +92,13 @@
  *
  * All functions end, keep nothing between calls except in what they are lent,
  * have no data but constants and call no function of the caller's, so they may be
- * called from several threads at once. On the small processors seat_edges takes
- * at most 420 bytes of stack besides its arguments, the other calls at most 140
- * (measured); on x86-64 all take less than 250 with the red zone (read off the
- * code). That is not proved.
+ * called from several threads at once. seat_edges takes at most 520 bytes of
+ * stack besides its arguments. The other calls take at most 140 on the small
+ * processors, and 330 on x86-64 with the red zone. That is measured, not proved.
  *
  * Each function has a section of its own: a firmware leaves out what it does not
- * call by -Wl,--gc-sections. seat_edges is the largest. It has all five decoders.
+ * call by -Wl,--gc-sections. seat_edges is the largest. It has all five decoders,
+ * and NEC's in guarded mode.
  */
 
 #ifndef DORZHIMU_SEAT_H
@@ -339,6 +340,32 @@ uint32_t seat_measure(uint32_t protocol, uint32_t rate, uint64_t duration,
 uint32_t seat_open(uint32_t protocol, uint32_t rate, uint32_t *receiver);
 
 /**
+ * \brief Make a fresh receiver of NEC in guarded mode.
+ *
+ * While a key is held, an NEC handset sends repeats, which carry no bits. A plain
+ * receiver reports each with the bits that it holds. After a broken frame these are
+ * the broken frame's, and where nothing was heard they are 0. A guarded receiver
+ * remembers whether its last frame was whole: a sync clears that mark, and the last
+ * bit of a frame sets it. A repeat without the mark is answered as an error,
+ * `SEAT_ERROR_DATA`. So every repeat that it reports has the address and the command
+ * of the last whole frame. All else is answered as a plain receiver answers it.
+ *
+ * It is kept and handed to `seat_edges` as any other receiver. Its protocol is
+ * `SEAT_NEC`.
+ *
+ * One refusal, and nothing else is refused:
+ *
+ *  - `SEAT_REFUSED_RATE` (1): `rate` is 0 or above `SEAT_LAST_RATE`.
+ *
+ * A refused call writes nothing: the numbers are as they were.
+ *
+ * \param rate       ticks a second, 1 to `SEAT_LAST_RATE`.
+ * \param receiver   receives the numbers.
+ * \return  `SEAT_DONE` (0), or the refusal number 1.
+ */
+uint32_t seat_open_guarded(uint32_t rate, uint32_t *receiver);
+
+/**
  * \brief Hand edges to a receiver.
  *
  * Edge i has level `levels[i]`, true where it rises, and came `durations[i]` ticks
@@ -365,7 +392,7 @@ uint32_t seat_open(uint32_t protocol, uint32_t rate, uint32_t *receiver);
  *
  *  - `SEAT_REFUSED_PROTOCOL` (2): `receiver` is none: its protocol is not 1 to 5.
  *  - `SEAT_REFUSED_RECEIVER` (4): its bit counter is past the last bit. No
- *    receiver that `seat_open` made gets there.
+ *    receiver that `seat_open` or `seat_open_guarded` made gets there.
  *  - `SEAT_REFUSED_LISTS` (5): `level_count` is not `duration_count`.
  *
  * A refused call writes nothing: the receiver, the columns, `*used` and `*count`

@@ -126,6 +126,7 @@ pub fn answer(call: &Call, slots: &mut Slots, text: &mut Vec<u8>) -> Source {
             is_last,
             number,
         } => return slots.count(slot, is_last, number, text),
+        Call::Guarded { slot, rate } => return slots.guarded(slot, rate, text),
         Call::Bounds { protocol } => bounds(protocol),
         Call::Wait { place, edge } => return slots.wait(place, edge, text),
     };

@@ -5,6 +5,7 @@
 use std::convert::TryFrom;
 use std::fmt;
 
+use crate::document::Mode;
 use crate::frames::{Command, ROOM};
 
 pub enum Call {
@@ -47,6 +48,9 @@ pub enum Call {
         is_last: bool,
         number: u32,
     },
+    /// A fresh NEC receiver in guarded mode. From slot 8 on it is the polled receiver of eight
+    /// less.
+    Guarded { slot: usize, rate: u32 },
     /// The least silence and the most deviation of demand 3.
     Bounds { protocol: u32 },
     /// An edge waits at a place of the two lists.
@@ -139,6 +143,33 @@ impl Call {
             Some(_) => None,
         }
     }
+
+    /// A fresh decoder of that mode.
+    pub fn open(mode: Mode, slot: usize, rate: u32) -> Call {
+        match mode {
+            Mode::Plain(protocol) => Call::Open {
+                slot,
+                protocol: protocol.number(),
+                rate,
+            },
+            Mode::Guarded => Call::Guarded { slot, rate },
+        }
+    }
+
+    /// A fresh polled receiver of that mode.
+    pub fn polled(mode: Mode, slot: usize, rate: u32) -> Call {
+        match mode {
+            Mode::Plain(protocol) => Call::Polled {
+                slot,
+                protocol: protocol.number(),
+                rate,
+            },
+            Mode::Guarded => Call::Guarded {
+                slot: SLOTS + slot,
+                rate,
+            },
+        }
+    }
 }
 
 impl fmt::Display for Call {
@@ -169,6 +200,7 @@ impl fmt::Display for Call {
                 is_last,
                 number,
             } => write!(f, "counter {} {} {}", slot, u8::from(*is_last), number),
+            Call::Guarded { slot, rate } => write!(f, "guarded {} {}", slot, rate),
             Call::Bounds { protocol } => write!(f, "bounds {}", protocol),
             Call::Wait { place, edge } => write!(f, "wait {} {}", place, edge),
         }
@@ -272,6 +304,10 @@ impl<'a, I: Iterator<Item = &'a [u8]>> Words<I> {
                 slot: self.number_up_to(2 * SLOTS - 1)?,
                 is_last: self.flag()?,
                 number: self.number()?,
+            },
+            b"guarded" => Call::Guarded {
+                slot: self.number_up_to(2 * SLOTS - 1)?,
+                rate: self.number()?,
             },
             b"bounds" => Call::Bounds {
                 protocol: self.number()?,

@@ -5,7 +5,7 @@ use std::iter;
 
 use crate::answers::{expected_spans, Source};
 use crate::calls::{Ask, Call, Edge, Send, SLOTS};
-use crate::document::Protocol;
+use crate::document::{Mode, Protocol};
 use crate::edge_kinds::Maker;
 use crate::frame_lists::command_of;
 use crate::frames;
@@ -52,9 +52,15 @@ fn edges_part(protocol: Protocol, times: u32) -> Calls {
     let rates = iter::once(MHZ).chain(others);
     let slots = (0..SLOTS).cycle();
     Box::new(rates.zip(slots).flat_map(move |(rate, slot)| {
-        let mut run = Run::new(protocol, rate, slot, times);
-        iter::from_fn(move || run.section()).flatten()
+        let edges = u64::from(times) * edges_at(protocol, rate);
+        calls_at(Mode::Plain(protocol), rate, slot, edges)
     }))
+}
+
+/// So many edge lines at one rate, and other calls between them.
+pub fn calls_at(mode: Mode, rate: u32, slot: usize, edges: u64) -> impl Iterator<Item = Call> {
+    let mut run = Run::new(mode, rate, slot, edges);
+    iter::from_fn(move || run.section()).flatten()
 }
 
 /// How many edge lines are made at a rate.
@@ -70,6 +76,7 @@ fn edges_at(protocol: Protocol, rate: u32) -> u64 {
 /// The calls at one rate, section by section.
 struct Run {
     maker: Maker,
+    mode: Mode,
     protocol: Protocol,
     rate: u32,
     slot: usize,
@@ -91,15 +98,16 @@ enum Manner {
 }
 
 impl Run {
-    fn new(protocol: Protocol, rate: u32, slot: usize, times: u32) -> Run {
+    fn new(mode: Mode, rate: u32, slot: usize, left: u64) -> Run {
         Run {
-            maker: Maker::new(protocol, rate),
-            protocol,
+            maker: Maker::new(mode, rate),
+            mode,
+            protocol: mode.protocol(),
             rate,
             slot,
             is_open: false,
             saved: 0,
-            left: u64::from(times) * edges_at(protocol, rate),
+            left,
         }
     }
 
@@ -138,11 +146,7 @@ impl Run {
     fn open(&mut self, calls: &mut Vec<Call>) {
         self.is_open = true;
         self.saved = 0;
-        calls.push(Call::Open {
-            slot: self.slot,
-            protocol: self.protocol.number(),
-            rate: self.rate,
-        });
+        calls.push(Call::open(self.mode, self.slot, self.rate));
     }
 
     /// Edges whose sums need not fit, and then others. The crate answers again from the next
@@ -184,9 +188,14 @@ impl Run {
         calls.push(self.ask(Ask::Send(send)));
     }
 
-    /// Some sections are disturbed by commands and resets.
+    /// Some sections are disturbed by commands and resets. In guarded mode more of them are asked
+    /// by `event`, which leaves an error where it is.
     fn ask_all(&mut self, edges: Vec<Edge>, calls: &mut Vec<Call>) {
-        let manner = match self.maker.random.below(32) {
+        let manners = match self.mode {
+            Mode::Plain(_) => 32,
+            Mode::Guarded => 8,
+        };
+        let manner = match self.maker.random.below(manners) {
             0 => Manner::Event,
             1 => Manner::Total,
             2 => Manner::Any,

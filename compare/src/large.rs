@@ -197,8 +197,9 @@ fn print_part(out: &mut impl Write, part: &Part, tally: &Tally) -> io::Result<()
     let Tally { counts, reported } = tally;
     writeln!(
         out,
-        "part {:12}{:>8}: by the crate {}, by document 01 {}, edges that wait {}, refused {}, \
-         commands reported {}, errors reported {}, refusals reported {}, polls {}",
+        "part {:16}{:>8}: by the crate {}, by document 01 {}, edges that wait {}, refused {}, \
+         commands reported {}, errors reported {}, refusals reported {}, polls {}, \
+         repeats reported {}, repeats that guarded mode refuses {}",
         part.name,
         counts.all(),
         counts.of(Source::Crate),
@@ -208,7 +209,9 @@ fn print_part(out: &mut impl Write, part: &Part, tally: &Tally) -> io::Result<()
         reported.commands,
         reported.errors,
         reported.refusals,
-        reported.polls
+        reported.polls,
+        reported.repeats,
+        reported.refused_repeats
     )
 }
 

@@ -8,6 +8,7 @@ use crate::closed_frame_lists;
 use crate::document::{self, Protocol, PROTOCOLS};
 use crate::edge_lists;
 use crate::frame_lists;
+use crate::guarded_lists;
 use crate::measure_lists;
 use crate::poll_lists;
 use crate::random::Random;
@@ -39,7 +40,7 @@ impl Part {
 }
 
 /// The parts of the large run, in their order.
-pub static PARTS: [Part; 16] = [
+pub static PARTS: [Part; 19] = [
     part("spans", spans_part),
     part("measure", measure_lists::measure_part),
     part("nec", frame_lists::nec_part),
@@ -60,6 +61,9 @@ pub static PARTS: [Part; 16] = [
     longer_part("denon-edges", edge_lists::denon_part),
     longer_part("polls", poll_lists::polls_part),
     longer_part("batches", batch_lists::batches_part),
+    longer_part("guarded-edges", guarded_lists::edges_part),
+    longer_part("guarded-polls", guarded_lists::polls_part),
+    longer_part("guarded-batches", guarded_lists::batches_part),
 ];
 
 const fn part(name: &'static str, calls: fn() -> Calls) -> Part {

@@ -3,6 +3,7 @@
 
 use crate::recorded_batches::*;
 use crate::recorded_counters::*;
+use crate::recorded_guarded::*;
 use crate::recorded_measures::*;
 use crate::recorded_polls::*;
 use crate::recorded_pulses::*;
@@ -133,6 +134,34 @@ scenes! {
     values_overlap,
     batch_takes_another_slot,
     wrong_batch_is_taken,
+    guarded_fresh_repeat_is_taken,
+    guarded_repeat_of_a_whole_frame_is_lost,
+    guarded_broken_frame_is_repeated,
+    guarded_refused_repeat_clears_bits,
+    guarded_refused_repeat_keeps_the_saved_duration,
+    guarded_sync_leaves_the_mark,
+    guarded_lost_sync_clears_the_mark,
+    guarded_reset_clears_the_mark,
+    guarded_reset_sets_the_mark,
+    guarded_error_clears_the_mark,
+    guarded_bad_bit_31_sets_the_mark,
+    guarded_mark_is_set_a_bit_early,
+    guarded_sync_in_a_frame_begins_another,
+    guarded_silence_clears_the_mark,
+    guarded_sum_goes_round,
+    guarded_counter_changes_the_mark,
+    guarded_refusal_4_changes_the_mark,
+    guarded_polls_are_plain,
+    guarded_poll_past_the_end_is_taken,
+    guarded_batch_is_plain,
+    guarded_edge_without_room_is_marked,
+    guarded_send_is_refused,
+    refused_guarded_empties_the_slot,
+    plain_and_guarded_share_a_slot,
+    reopened_slot_keeps_the_mark,
+    guarded_takes_another_slot,
+    guarded_spans_are_those_of_1_mhz,
+    wrong_guarded_is_taken,
 }
 
 fn scene_of(write: fn(&mut Scene)) -> Scene {

@@ -3,9 +3,9 @@
 
 use crate::answers::Source;
 use crate::batch::{self, Waiting};
-use crate::calls::{Ask, Batch, Edge, SLOTS};
+use crate::calls::{Ask, Batch, Edge, Send, SLOTS};
 use crate::decoders::{self, Twins};
-use crate::document::{self, Protocol};
+use crate::document::{self, Mode, Protocol};
 use crate::frames;
 use crate::judge::Judge;
 use crate::model::Decoder;
@@ -24,12 +24,15 @@ pub struct Slots {
 }
 
 /// How many commands, errors and refusals event_total reported, and how many polls were made.
+/// Repeats are commands too, and those that guarded mode refuses are errors.
 #[derive(Clone, Copy, Default)]
 pub struct Reported {
     pub commands: u64,
     pub errors: u64,
     pub refusals: u64,
     pub polls: u64,
+    pub repeats: u64,
+    pub refused_repeats: u64,
 }
 
 struct Slot {
@@ -42,7 +45,8 @@ impl Slots {
     /// Adds the answer to `text`.
     pub fn open(&mut self, slot: usize, protocol: u32, rate: u32, text: &mut Vec<u8>) -> Source {
         opened(protocol, rate, text, |protocol| {
-            let opened = self.decoders[slot].insert(Slot::new(protocol, rate));
+            let mode = Mode::Plain(protocol);
+            let opened = self.decoders[slot].insert(Slot::new(mode, rate));
             opened.judge.source()
         })
     }
@@ -56,13 +60,11 @@ impl Slots {
         match ask {
             Ask::Event(edge) => reports::push_status(text, slot.event(edge)),
             Ask::Total(edge) => {
-                let shown = slot.total(edge);
-                self.reported.add(shown.report);
+                let shown = slot.total(edge, &mut self.reported);
                 reports::push_report(text, shown.report);
             }
             Ask::Edge(edge) => {
-                let shown = slot.total(edge);
-                self.reported.add(shown.report);
+                let shown = slot.total(edge, &mut self.reported);
                 reports::push_shown(text, shown);
             }
             Ask::Command => reports::push_heard(text, slot.command()),
@@ -71,30 +73,9 @@ impl Slots {
                 text.extend_from_slice(b"reset");
             }
             Ask::Batch(told) => {
-                if let Err(refusal) = slot.admit(told) {
-                    batch::push_refused(text, refusal, told.room);
-                    return Source::Refused;
-                }
-                let handful =
-                    batch::handful(self.waiting.edges(told), told.room, |edge, has_room| {
-                        let report = slot.total_if(&edge, has_room)?;
-                        self.reported.add(report);
-                        Some(report)
-                    });
-                batch::push_handful(text, &handful, told.room);
+                return slot.batch(told, &self.waiting, &mut self.reported, text);
             }
-            Ask::Send(told) => {
-                let kind = match frames::admit(slot.judge.protocol.number(), send::RATE) {
-                    Ok(kind) => kind,
-                    Err(refusal) => return refused(refusal, text),
-                };
-                let sent = send::sent(kind, told, |edge| {
-                    let report = slot.total(&edge).report;
-                    self.reported.add(report);
-                    report
-                });
-                send::push_sent(text, &sent);
-            }
+            Ask::Send(told) => return slot.send(told, &mut self.reported, text),
         }
         slot.judge.source()
     }
@@ -125,8 +106,26 @@ impl Slots {
     /// Adds the answer to `text`.
     pub fn polled(&mut self, slot: usize, protocol: u32, rate: u32, text: &mut Vec<u8>) -> Source {
         opened(protocol, rate, text, |protocol| {
-            let opened = self.receivers[slot].insert(PolledSlot::new(protocol, rate));
+            let mode = Mode::Plain(protocol);
+            let opened = self.receivers[slot].insert(PolledSlot::new(mode, rate));
             opened.source()
+        })
+    }
+
+    /// Adds the answer to `text`. The polled receivers' slots come after those of decoders.
+    pub fn guarded(&mut self, slot: usize, rate: u32, text: &mut Vec<u8>) -> Source {
+        let mode = Mode::Guarded;
+        opened(mode.protocol().number(), rate, text, |_| {
+            match slot.checked_sub(SLOTS) {
+                None => {
+                    let opened = self.decoders[slot].insert(Slot::new(mode, rate));
+                    opened.judge.source()
+                }
+                Some(slot) => {
+                    let opened = self.receivers[slot].insert(PolledSlot::new(mode, rate));
+                    opened.source()
+                }
+            }
         })
     }
 
@@ -136,8 +135,9 @@ impl Slots {
             Some(receiver) => receiver,
             None => return not_open(text),
         };
+        let before = receiver.status();
         let report = receiver.poll(level, count);
-        self.reported.add(report);
+        self.reported.add(before, report);
         self.reported.polls += u64::from(count);
         reports::push_report(text, report);
         receiver.source()
@@ -149,8 +149,9 @@ impl Slots {
             Some(receiver) => receiver,
             None => return not_open(text),
         };
+        let before = receiver.status();
         let report = receiver.hold(count);
-        self.reported.add(report);
+        self.reported.add(before, report);
         self.reported.polls += u64::from(count);
         match report {
             Report::Nothing => text.extend_from_slice(b"idle"),
@@ -192,22 +193,28 @@ fn not_open(text: &mut Vec<u8>) -> Source {
 }
 
 impl Reported {
-    fn add(&mut self, report: Report) {
+    /// A report, and the status before its edge. From idle nothing is an error but a repeat.
+    fn add(&mut self, before: Status, report: Report) {
         match report {
             Report::Nothing => {}
             Report::Command(_) => self.commands += 1,
             Report::Error(_) => self.errors += 1,
             Report::PastEnd => self.refusals += 1,
         }
+        match (before, report) {
+            (_, Report::Command(Heard::Nec { repeat: true, .. })) => self.repeats += 1,
+            (Status::Idle, Report::Error(_)) => self.refused_repeats += 1,
+            _ => {}
+        }
     }
 }
 
 impl Slot {
-    fn new(protocol: Protocol, rate: u32) -> Slot {
+    fn new(mode: Mode, rate: u32) -> Slot {
         Slot {
-            judge: Judge::new("decoder", protocol, rate),
-            document: Decoder::new(protocol, rate),
-            crates: decoders::twins(protocol, rate),
+            judge: Judge::new("decoder", mode, rate),
+            document: Decoder::new(mode, rate),
+            crates: decoders::twins(mode, rate),
         }
     }
 
@@ -223,25 +230,59 @@ impl Slot {
         self.judge.told(exact, ask)
     }
 
-    fn total(&mut self, edge: &Edge) -> Shown {
+    fn total(&mut self, edge: &Edge, reported: &mut Reported) -> Shown {
         self.judge.before(&self.document, edge);
+        let before = self.document.status();
         let exact = self.document.total(edge.rising, edge.duration);
         let ask = || self.crates.total(edge.rising, edge.duration);
-        self.judge.told(exact, ask)
+        let shown = self.judge.told(exact, ask);
+        reported.add(before, shown.report);
+        shown
+    }
+
+    /// Adds the answer to `text`.
+    fn batch(
+        &mut self,
+        told: &Batch,
+        waiting: &Waiting,
+        reported: &mut Reported,
+        text: &mut Vec<u8>,
+    ) -> Source {
+        if let Err(refusal) = self.admit(told) {
+            batch::push_refused(text, refusal, told.room);
+            return Source::Refused;
+        }
+        let handful = batch::handful(waiting.edges(told), told.room, |edge, has_room| {
+            self.total_if(&edge, has_room, reported)
+        });
+        batch::push_handful(text, &handful, told.room);
+        self.judge.source()
+    }
+
+    /// Adds the answer to `text`.
+    fn send(&mut self, told: &Send, reported: &mut Reported, text: &mut Vec<u8>) -> Source {
+        let protocol = self.judge.mode.protocol();
+        let kind = match frames::admit(protocol.number(), send::RATE) {
+            Ok(kind) => kind,
+            Err(refusal) => return refused(refusal, text),
+        };
+        let sent = send::sent(kind, told, |edge| self.total(&edge, reported).report);
+        send::push_sent(text, &sent);
+        self.judge.source()
     }
 
     /// What the edge reports; `None` where that has no room, and then it was not handed over. The
     /// crate's decoder tells only once it has taken the edge: it is stepped back.
-    fn total_if(&mut self, edge: &Edge, has_room: bool) -> Option<Report> {
-        let before = (self.judge.clone(), self.document.clone());
-        let report = self.total(edge).report;
+    fn total_if(&mut self, edge: &Edge, has_room: bool, reported: &mut Reported) -> Option<Report> {
+        let before = (self.judge.clone(), self.document.clone(), *reported);
+        let report = self.total(edge, reported).report;
         if has_room || report == Report::Nothing {
             return Some(report);
         }
         if self.judge.source() == Source::Crate {
             self.crates.step_back();
         }
-        (self.judge, self.document) = before;
+        (self.judge, self.document, *reported) = before;
         None
     }
 

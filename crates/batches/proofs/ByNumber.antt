@@ -9,10 +9,10 @@ use Rattle.spans.specs.declared.Spans.{Spans}
 use Rattle.reports.specs.Edges.{Edge}
 use Rattle.reports.specs.Machine.{Machine, Inside, runReports}
 use Rattle.reports.proofs.Machine.{reports-own, after-own}
-use Rattle.typed_batches.specs.Batch.{edgesIn, answersOf, Handful, usedBy, refused, handful, batch}
+use Rattle.handfuls.specs.Batch.{edgesIn, answersOf, Handful, usedBy, refused, handful, batch}
 use Rattle.protocols.specs.Decoder.{machine}
 use Rattle.protocols.specs.declared.decoder.Memory.{Memory}
-use Rattle.typed_batches.specs.Columns.{roomOf, edgesLeft, kindsLeft, valuesLeft, batchInto}
+use Rattle.handfuls.specs.Columns.{roomOf, edgesLeft, kindsLeft, valuesLeft, batchInto}
 use Rattle.batches.specs.declared.Batched.{Batched}
 use Rattle.batches.specs.Batched.{batchedOf}
 

@@ -4,8 +4,8 @@ use lib.ListN.{length}
 use Rattle.spans.specs.declared.Spans.{Spans}
 use Rattle.protocols.specs.Decoder.{decoderOf}
 use Rattle.protocols.specs.declared.decoder.Memory.{Memory}
-use Rattle.typed_batches.specs.declared.Reason.{Reason}
-use Rattle.typed_batches.specs.Batch.{Handful}
+use Rattle.handfuls.specs.declared.Reason.{Reason}
+use Rattle.handfuls.specs.Batch.{Handful}
 use Rattle.batches.specs.declared.Batched.{Batched}
 
 abbrev pub batchedAt : Reason → (used count : ℕ) → Spans → Memory → Batched

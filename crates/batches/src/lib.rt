@@ -1,5 +1,7 @@
-// Document 02, request 01: edges by the handful, for a decoder of any protocol, by its number.
+// Document 02, request 01: edges by the handful, for a decoder of any protocol, by its number, and for NEC in guarded mode.
 use denon::decoder::DenonMemory;
+use guarded::decoder::GuardedMemory;
+use handfuls::Reason;
 use nec::decoder::NecMemory;
 use protocols::decoder::Decoder;
 use protocols::decoder::Memory;
@@ -7,16 +9,16 @@ use rc5::decoder::Rc5Memory;
 use rc6::decoder::Rc6Memory;
 use sbp::decoder::SbpMemory;
 use spans::Spans;
-use typed_batches::Reason;
 use typed_batches::denon_batch;
+use typed_batches::guarded_batch;
 use typed_batches::nec_batch;
 use typed_batches::rc5_batch;
 use typed_batches::rc6_batch;
 use typed_batches::sbp_batch;
 ghost use mathlib.Core.Path.{_≡_};
 ghost use Rattle.protocols.specs.Decoder.{machine};
-ghost use Rattle.protocols.specs.declared.decoder.Memory.the-variants.{Nec, Rc5, Rc6, Sbp, Denon};
-ghost use Rattle.typed_batches.specs.Columns.{edgesLeft, kindsLeft, valuesLeft, batchInto};
+ghost use Rattle.protocols.specs.declared.decoder.Memory.the-variants.{Nec, Rc5, Rc6, Sbp, Denon, Guarded};
+ghost use Rattle.handfuls.specs.Columns.{edgesLeft, kindsLeft, valuesLeft, batchInto};
 ghost use Rattle.batches.specs.Batched.{batchedAt, batchedOf};
 
 // Why it stopped, how many edges are used, how many answers are written, and the decoder after the edges used.
@@ -189,6 +191,36 @@ fn denon(
     of(reason, b.used, b.count, spans, Memory::Denon(memory))
 }
 
+fn guarded(
+    spans: Spans,
+    m: GuardedMemory,
+    levels: &[bool],
+    durations: &[u32],
+    edges: &mut [usize],
+    kinds: &mut [u32],
+    values: &mut [u64],
+) -> Batched
+    ensures { λ r. ⌜ (let h = batchInto machine spans (Guarded m) (now (levels .entry)) (now (durations .entry))
+        (now (edges .entry)) (now (kinds .entry)) (now (values .entry)) in
+        (r ≡ batchedOf spans h) × (now (edges .exit) ≡ edgesLeft (h .answers) (now (edges .entry)))
+        × (now (kinds .exit) ≡ kindsLeft (h .answers) (now (kinds .entry))) × (now (values .exit) ≡ valuesLeft (h .answers) (now (values .entry)))) ⌝ }
+{
+    let b = guarded_batch::batch_in(
+        &spans.base,
+        &spans.low,
+        &spans.high,
+        m,
+        levels,
+        durations,
+        edges,
+        kinds,
+        values,
+    );
+    let reason = b.reason;
+    let memory = b.memory;
+    of(reason, b.used, b.count, spans, Memory::Guarded(memory))
+}
+
 // A decoder of any protocol. Refusals: 4, then 5. The protocol is asked for once a call.
 pub fn batch(
     decoder: Decoder,
@@ -211,5 +243,6 @@ pub fn batch(
         Memory::Rc6(m) => rc6(spans, m, levels, durations, edges, kinds, values),
         Memory::Sbp(m) => sbp(spans, m, levels, durations, edges, kinds, values),
         Memory::Denon(m) => denon(spans, m, levels, durations, edges, kinds, values),
+        Memory::Guarded(m) => guarded(spans, m, levels, durations, edges, kinds, values),
     }
 }

@@ -5,7 +5,8 @@ use mathlib.Core.Bool.{Bool, true, false, _||_}
 use mathlib.Core.List.{List}
 use lib.Dec.{eqb}
 use lib.ListN.{getD}
-use Rattle.polled.specs.Polled.{polledAt}
+use borrow.Author.Tests.{ne-eqb}
+use Rattle.polled.specs.Polled.{polledAt, polledGuarded}
 use Rattle.polled.specs.declared.Polled.{Polled}
 use Rattle.answers.specs.Answers.{reportPhrase}
 use Rattle.answers.specs.declared.Phrase.{Phrase}
@@ -49,11 +50,15 @@ module _ (call : ℕ) (slot : Slot) (n : List ℕ) {a b : ℕ} (p : a ≡ getD n
   unfolding calledOn
   open-is t h = picked _ _ _ _ t (h ∙ (λ i. openedBy slot (polledAt (p i) (q i))))
 
-  module _ (t : (eqb call 3 || eqb call 9) ≡ false) where
+  pub guarded-is : call ≡ 19 → {x : SlotAnswer} → x ≡ openedBy slot (polledGuarded a) → x ≡ calledOn call slot n
+  unfolding calledOn
+  guarded-is k h = h ∙ (λ i. openedBy slot (polledGuarded (p i))) ∙ (λ i. calledOn (sym k i) slot n)
+
+  module _ (t : (eqb call 3 || eqb call 9) ≡ false) (g : call ≡ 19 → ⊥) where
     pub held-is : slot .is_open ≡ true → {x : SlotAnswer} → x ≡ heldAt call (slot .receiver) a b n → x ≡ calledOn call slot n
     unfolding calledOn
-    held-is o h = passed _ _ _ _ t (picked _ _ _ _ o (h ∙ (λ i. heldAt call (slot .receiver) (p i) (q i) n)))
+    held-is o h = passed _ _ _ _ t (passed _ _ _ _ (ne-eqb call 19 g) (picked _ _ _ _ o (h ∙ (λ i. heldAt call (slot .receiver) (p i) (q i) n))))
 
     pub closed-is : slot .is_open ≡ false → {x : SlotAnswer} → x ≡ closedBy slot → x ≡ calledOn call slot n
     unfolding calledOn
-    closed-is o h = passed _ _ _ _ t (passed _ _ _ _ o h)
+    closed-is o h = passed _ _ _ _ t (passed _ _ _ _ (ne-eqb call 19 g) (passed _ _ _ _ o h))

@@ -2,8 +2,8 @@
 use mathlib.Core.Bool.{cond}
 use mathlib.Core.List.{[], _∷_}
 use Rattle.batches.specs.declared.Batched.{Batched}
-use Rattle.typed_batches.specs.declared.Reason.{Reason}
-use Rattle.typed_batches.specs.declared.Reason.the-variants.{AllUsed, NoRoom, Refused}
+use Rattle.handfuls.specs.declared.Reason.{Reason}
+use Rattle.handfuls.specs.declared.Reason.the-variants.{AllUsed, NoRoom, Refused}
 use Rattle.answers.specs.Answers.{word, textOf, withOf, refusedPhrase}
 use Rattle.answers.specs.declared.Phrase.{Phrase}
 use Rattle.calls.specs.Parts.{headed}

@@ -81,6 +81,7 @@ calls =
     ∷ call ("m" ∷ "e" ∷ "a" ∷ "s" ∷ "u" ∷ "r" ∷ "e" ∷ []) (word32 ∷ word32 ∷ word64 ∷ [])
     ∷ call ("w" ∷ "a" ∷ "i" ∷ "t" ∷ []) (waiting ∷ flag ∷ word32 ∷ [])
     ∷ call ("b" ∷ "a" ∷ "t" ∷ "c" ∷ "h" ∷ []) (slot ∷ column ∷ handed ∷ handed ∷ [])
+    ∷ call ("g" ∷ "u" ∷ "a" ∷ "r" ∷ "d" ∷ "e" ∷ "d" ∷ []) (eitherSlot ∷ word32 ∷ [])
     ∷ []
 
 abbrev pub isIn : Range → ℕ → Bool

@@ -11,7 +11,7 @@ use Rattle.denon.specs.declared.decoder.DenonState.the-variants as denon
 use Rattle.protocols.specs.Decoder.{decoderOf}
 use Rattle.protocols.specs.declared.decoder.Decoder.{Decoder}
 use Rattle.protocols.specs.declared.decoder.Memory.{Memory}
-use Rattle.protocols.specs.declared.decoder.Memory.the-variants.{Nec, Rc5, Rc6, Sbp, Denon}
+use Rattle.protocols.specs.declared.decoder.Memory.the-variants.{Nec, Rc5, Rc6, Sbp, Denon, Guarded}
 
 -- RC6 counts its header, and then its data
 abbrev pub rc6State : Bool → ℕ → Rc6State
@@ -27,6 +27,7 @@ countingIn (Rc5 m) last number = Rc5 (record { state = rc5.Data (number % 256); 
 countingIn (Rc6 m) last number = Rc6 (record { state = rc6State last number; «data» = m .«data»; header = m .header; toggle = m .toggle; clock = m .clock })
 countingIn (Sbp m) last number = Sbp (record { state = sbpState last (number % 65536); address = m .address; command = m .command; saved = m .saved })
 countingIn (Denon m) last number = Denon (record { state = denon.Data (number % 256); bits = m .bits; saved = m .saved })
+countingIn (Guarded m) last number = Guarded (record { nec = record { state = nec.Receiving number; bits = m .nec .bits; saved = m .nec .saved }; mark = m .mark })
 
 abbrev pub counting : Decoder → Bool → ℕ → Decoder
 counting d last number = decoderOf (d .spans) (countingIn (d .memory) last number)

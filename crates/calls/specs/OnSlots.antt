@@ -23,7 +23,7 @@ closedSlot = record { is_open = false; receiver = polledAt 1 1000000 .receiver }
 abbrev pub allClosed : Slots
 allClosed = record { slots = replicate 16 closedSlot; parts = alone (textOf 0 0) }
 
--- where the slot of a call stands: polled, poll and idle have the last eight, and counter has them all
+-- where the slot of a call stands: polled, poll and idle have the last eight, counter and guarded have them all
 abbrev pub placeOf : ℕ → ℕ → ℕ
 placeOf call slot = cond (leb 9 call && leb call 11) (slot % 8 + 8) (slot % 16)
 
@@ -38,9 +38,9 @@ storedAt slots place answer =
 abbrev pub answeredBy : ℕ → ℕ → List ℕ → Slots → Slots
 answeredBy call place n slots = storedAt slots place (calledOn call (slotAt slots place) n)
 
--- from open to counter, and send
+-- from open to counter, send, and guarded
 abbrev pub isOnSlot : ℕ → Bool
-isOnSlot call = leb 3 call && leb call 12 || eqb call 14
+isOnSlot call = leb 3 call && leb call 12 || eqb call 14 || eqb call 19
 
 -- the first number of a call on a slot is the slot's; a call that asks no slot answers one phrase
 unfoldable pub answeredAt : ℕ → List ℕ → Slots → Slots

@@ -9,7 +9,7 @@ use Rattle.reports.specs.declared.Report.the-variants as report
 use Rattle.reports.specs.Edges.{edge}
 use Rattle.protocols.specs.Decoder.{machine, decoderOf, edgeEvent, edgeTotal}
 use Rattle.protocols.specs.declared.decoder.Decoder.{Decoder}
-use Rattle.polled.specs.Polled.{polledAt, pollOf, idled}
+use Rattle.polled.specs.Polled.{polledAt, polledGuarded, pollOf, idled}
 use Rattle.polled.specs.declared.Polled.{Polled}
 use Rattle.polled.specs.declared.PolledMade.{PolledMade}
 use Rattle.answers.specs.Answers.{word, textOf, statusPhrase, reportPhrase, answerPhrase, isTaken, notOpen}
@@ -31,7 +31,7 @@ heldBy parts receiver = record { slot = record { is_open = true; receiver = rece
 abbrev pub closedBy : Slot → SlotAnswer
 closedBy slot = record { slot = slot; parts = alone notOpen }
 
--- `open` and `polled`: a fresh receiver; refused, the slot as it was
+-- `open`, `polled` and `guarded`: a fresh receiver; refused, the slot as it was
 abbrev pub openedBy : Slot → PolledMade → SlotAnswer
 openedBy slot made =
     let parts = alone (answerPhrase (made .answer)) in
@@ -118,10 +118,10 @@ heldAt call p a b n =
     cond (eqb call 10) (polledBy (pollsAt p (eqb a 1) b))
     (cond (eqb call 11) (idleAt p a) (withDecoder p (askedAt call (p .decoder) a b n)))
 
--- open and polled, and the calls on an open slot
+-- open, polled and guarded, and the calls on an open slot
 unfoldable pub calledOn : ℕ → Slot → List ℕ → SlotAnswer
 calledOn call slot n =
     let a = getD n 1 0 % 2 ^ 32 in
     let b = getD n 2 0 % 2 ^ 32 in
     cond (eqb call 3 || eqb call 9) (openedBy slot (polledAt a b))
-    (cond (slot .is_open) (heldAt call (slot .receiver) a b n) (closedBy slot))
+    (cond (eqb call 19) (openedBy slot (polledGuarded a)) (cond (slot .is_open) (heldAt call (slot .receiver) a b n) (closedBy slot)))

@@ -10,7 +10,7 @@ use answers::of_refused;
 use answers::text;
 use answers::with;
 use batches::Batched;
-use typed_batches::Reason;
+use handfuls::Reason;
 ghost use mathlib.Core.Path.{_≡_};
 ghost use Rattle.calls.specs.Batch.{reasonPhrase, batchAnswer, batchOn};
 

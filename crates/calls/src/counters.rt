@@ -1,6 +1,7 @@
 // A decoder that is told to be at a bit: the only way to a counter that is past its end. The state becomes the one that counts, and all else stays.
 use denon::decoder::DenonMemory;
 use denon::decoder::DenonState;
+use guarded::decoder::GuardedMemory;
 use nec::decoder::NecMemory;
 use nec::decoder::NecState;
 use protocols::decoder::Decoder;
@@ -12,7 +13,19 @@ use rc6::decoder::Rc6State;
 use sbp::decoder::SbpMemory;
 use sbp::decoder::SbpState;
 ghost use mathlib.Core.Path.{_≡_};
+ghost use Rattle.nec.specs.Decoder.{memoryOf};
+ghost use Rattle.nec.specs.declared.decoder.NecState.the-variants.{Receiving};
 ghost use Rattle.calls.specs.Counters.{rc6State, sbpState, countingIn, counting};
+
+fn nec_at(m: NecMemory, number: u32) -> NecMemory
+    ensures { λ r. ⌜ r ≡ memoryOf (Receiving number) (m .bits) (m .saved) ⌝ }
+{
+    NecMemory {
+        state: NecState::Receiving(number),
+        bits: m.bits,
+        saved: m.saved,
+    }
+}
 
 fn rc6_state(last: bool, number: u32) -> Rc6State
     ensures { λ r. ⌜ r ≡ rc6State last number ⌝ }
@@ -39,11 +52,7 @@ fn counting_in(memory: Memory, last: bool, number: u32) -> Memory
     ensures { λ r. ⌜ r ≡ countingIn memory last number ⌝ }
 {
     match memory {
-        Memory::Nec(m) => Memory::Nec(NecMemory {
-            state: NecState::Receiving(number),
-            bits: m.bits,
-            saved: m.saved,
-        }),
+        Memory::Nec(m) => Memory::Nec(nec_at(m, number)),
         Memory::Rc5(m) => Memory::Rc5(Rc5Memory {
             state: Rc5State::Data((number % 256) as u8),
             bits: m.bits,
@@ -66,6 +75,10 @@ fn counting_in(memory: Memory, last: bool, number: u32) -> Memory
             state: DenonState::Data((number % 256) as u8),
             bits: m.bits,
             saved: m.saved,
+        }),
+        Memory::Guarded(m) => Memory::Guarded(GuardedMemory {
+            nec: nec_at(m.nec, number),
+            mark: m.mark,
         }),
     }
 }

@@ -51,8 +51,10 @@ pub const WAIT: usize = 17;
 
 pub const BATCH: usize = 18;
 
+pub const GUARDED: usize = 19;
+
 // No call.
-pub const NONE: usize = 19;
+pub const NONE: usize = 20;
 
 // The names, their letters as digits of base 256.
 const SPANS_NAME: u64 = 0x7370616E73;
@@ -93,7 +95,9 @@ const WAIT_NAME: u64 = 0x77616974;
 
 const BATCH_NAME: u64 = 0x6261746368;
 
-const NAMES: [u64; 19] = [
+const GUARDED_NAME: u64 = 0x67756172646564;
+
+const NAMES: [u64; 20] = [
     SPANS_NAME,
     LOOKUP_NAME,
     ENCODE_NAME,
@@ -113,17 +117,18 @@ const NAMES: [u64; 19] = [
     MEASURE_NAME,
     WAIT_NAME,
     BATCH_NAME,
+    GUARDED_NAME,
 ];
 
 // How many numbers follow the name.
-const COUNTS: [usize; 19] = [2, 3, 7, 3, 3, 3, 3, 1, 1, 3, 3, 2, 3, 1, 7, 5, 3, 3, 4];
+const COUNTS: [usize; 20] = [2, 3, 7, 3, 3, 3, 3, 1, 1, 3, 3, 2, 3, 1, 7, 5, 3, 3, 4, 2];
 
 const LAST: u64 = 0xFFFFFFFF;
 
 const ANY: u64 = 0xFFFFFFFFFFFFFFFF;
 
 // The largest that each number may be; whatever stands after the numbers is not asked.
-const MOST: [[u64; 7]; 19] = [
+const MOST: [[u64; 7]; 20] = [
     [LAST, LAST, ANY, ANY, ANY, ANY, ANY],
     [LAST, LAST, ANY, ANY, ANY, ANY, ANY],
     [LAST, LAST, 255, 255, 255, 1, 100],
@@ -143,24 +148,25 @@ const MOST: [[u64; 7]; 19] = [
     [LAST, LAST, ANY, ANY, ANY, ANY, ANY],
     [63, 1, LAST, ANY, ANY, ANY, ANY],
     [7, 8, 64, 64, ANY, ANY, ANY],
+    [15, LAST, ANY, ANY, ANY, ANY, ANY],
 ];
 
 fn name_at(call: usize) -> u64
-    requires { ⌜ call < 19 ⌝ }
+    requires { ⌜ call < 20 ⌝ }
     ensures { λ r. ⌜ r ≡ callAt call .name ⌝ }
 {
     NAMES[call]
 }
 
 fn count_at(call: usize) -> usize
-    requires { ⌜ call < 19 ⌝ }
+    requires { ⌜ call < 20 ⌝ }
     ensures { λ r. ⌜ (r ≡ length (callAt call .numbers)) × (r ≤ 7) ⌝ }
 {
     COUNTS[call]
 }
 
 fn most_at(call: usize, place: usize) -> u64
-    requires { ⌜ (call < 19) × (place < 7) ⌝ }
+    requires { ⌜ (call < 20) × (place < 7) ⌝ }
     ensures { λ r. ⌜ r ≡ rangeAt call place .1 ⌝ }
 {
     MOST[call][place]
@@ -168,14 +174,14 @@ fn most_at(call: usize, place: usize) -> u64
 
 // A poll is of one level at least; every other number may be 0.
 fn least_at(call: usize, place: usize) -> u64
-    requires { ⌜ (call < 19) × (place < 7) ⌝ }
+    requires { ⌜ (call < 20) × (place < 7) ⌝ }
     ensures { λ r. ⌜ r ≡ rangeAt call place .0 ⌝ }
 {
     if (call == POLL) & (place == 2) { 1 } else { 0 }
 }
 
 fn is_in(call: usize, place: usize, x: u64) -> bool
-    requires { ⌜ (call < 19) × (place < 7) ⌝ }
+    requires { ⌜ (call < 20) × (place < 7) ⌝ }
     ensures { λ r. ⌜ r ≡ isIn (rangeAt call place) x ⌝ }
 {
     (least_at(call, place) <= x) & (x <= most_at(call, place))
@@ -183,7 +189,7 @@ fn is_in(call: usize, place: usize, x: u64) -> bool
 
 // The numbers of a call are in their ranges.
 fn are_in(call: usize, n: &[u64; 8]) -> bool
-    requires { ⌜ call < 19 ⌝ }
+    requires { ⌜ call < 20 ⌝ }
     ensures { λ r. ⌜ r ≡ areFrom 0 (callAt call .numbers) (now (n .entry)) ⌝ }
 {
     let count = count_at(call);
@@ -199,14 +205,14 @@ fn are_in(call: usize, n: &[u64; 8]) -> bool
 
 // The line is a name and so many numbers.
 fn is_named(line: Line, call: usize) -> bool
-    requires { ⌜ call < 19 ⌝ }
+    requires { ⌜ call < 20 ⌝ }
     ensures { λ r. ⌜ r ≡ isNamed line (callAt call) ⌝ }
 {
     line.whole & (line.name == name_at(call)) & (line.count == count_at(call))
 }
 
 fn is_call(line: Line, n: &[u64; 8], call: usize) -> bool
-    requires { ⌜ call < 19 ⌝ }
+    requires { ⌜ call < 20 ⌝ }
     ensures { λ r. ⌜ r ≡ isCall line (now (n .entry)) (callAt call) ⌝ }
 {
     is_named(line, call) && are_in(call, n)
@@ -217,7 +223,7 @@ pub fn call_of(line: Line, n: &[u64; 8]) -> usize
     ensures { λ r. ⌜ r ≡ callOf line (now (n .entry)) ⌝ }
 {
     let mut call: usize = 0;
-    while call < 19 {
+    while call < 20 {
         if is_call(line, n, call) {
             return call;
         }

@@ -1,4 +1,4 @@
-// The calls on slots: open, event, total, edge, command, reset, send and batch on a decoder, polled, poll and idle on a polled receiver, counter on both.
+// The calls on slots: open, event, total, edge, command, reset, send and batch on a decoder, polled, poll and idle on a polled receiver, counter and guarded on both.
 use crate::batch::batch_on;
 use crate::phrases::phrase_of;
 use crate::slots::SlotAnswer;
@@ -50,7 +50,7 @@ pub fn all_closed() -> Slots
     }
 }
 
-// Where the slot of a call stands: polled, poll and idle have the last eight, and counter has them all.
+// Where the slot of a call stands: polled, poll and idle have the last eight, counter and guarded have them all.
 fn place_of(call: usize, slot: u64) -> usize
     ensures { λ r. ⌜ (r ≡ placeOf call slot) × (r < 16) ⌝ }
 {
@@ -81,11 +81,14 @@ fn stored(slots: Slots, place: usize, answer: SlotAnswer) -> Slots
     after
 }
 
-// The first number of a call on a slot is the slot's: the calls from open to counter, and send. Any other answers one phrase.
+// The first number of a call on a slot is the slot's: the calls from open to counter, send, and guarded. Any other answers one phrase.
 pub fn answered(call: usize, n: &[u64; 8], slots: Slots) -> Slots
     ensures { λ r. ⌜ r ≡ answeredAt call (now (n .entry)) slots ⌝ }
 {
-    if (crate::OPEN <= call) & (call <= crate::COUNTER) | (call == crate::SEND) {
+    if (crate::OPEN <= call) & (call <= crate::COUNTER)
+        | (call == crate::SEND)
+        | (call == crate::GUARDED)
+    {
         let place = place_of(call, n[0]);
         return stored(slots, place, called(call, slot_at(slots, place), n));
     }

@@ -26,6 +26,7 @@ fn protocol_of(memory: Memory) -> u32
         Memory::Rc6(_) => 3,
         Memory::Sbp(_) => 4,
         Memory::Denon(_) => 5,
+        Memory::Guarded(_) => 1,
     }
 }
 

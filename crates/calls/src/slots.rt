@@ -11,12 +11,12 @@ use answers::of_report;
 use answers::of_status;
 use answers::text;
 use polled::Polled;
+use polled::PolledMade;
 use polled::poll_through;
 use protocols::decoder::Decoder;
 use reports::Report;
 use text::words::low_32;
 ghost use mathlib.Core.Path.{_≡_};
-ghost use Rattle.polled.specs.Polled.{polledAt};
 ghost use Rattle.calls.specs.Parts.{alone, headed};
 ghost use Rattle.calls.specs.Slots.{answering, heldBy, closedBy, withDecoder, openedBy, edgeBy, askedAt, firstOf, polledAgain, pollsAt, heldAt, calledOn};
 
@@ -101,10 +101,9 @@ pub fn going_on(receiver: Polled, one: DecoderAnswer) -> SlotAnswer
 }
 
 // A refused open leaves the slot as it was.
-fn opened(slot: Slot, protocol: u32, rate: u32) -> SlotAnswer
-    ensures { λ r. ⌜ r ≡ openedBy slot (polledAt protocol rate) ⌝ }
+fn opened(slot: Slot, made: PolledMade) -> SlotAnswer
+    ensures { λ r. ⌜ r ≡ openedBy slot made ⌝ }
 {
-    let made = Polled::new(protocol, rate);
     let answer = made.answer;
     let parts = alone(of_answer(answer));
     if is_taken(answer) {
@@ -220,7 +219,10 @@ pub fn called(call: usize, slot: Slot, n: &[u64; 8]) -> SlotAnswer
     let a = low_32(n[1]);
     let b = low_32(n[2]);
     if (call == crate::OPEN) | (call == crate::POLLED) {
-        return opened(slot, a, b);
+        return opened(slot, Polled::new(a, b));
+    }
+    if call == crate::GUARDED {
+        return opened(slot, Polled::new_guarded(a));
     }
     if slot.is_open {
         let receiver = slot.receiver;

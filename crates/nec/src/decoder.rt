@@ -15,15 +15,15 @@ ghost use Rattle.nec.specs.Decoder.{pastEnd, memoryOf, nextOf, withSaved
 ghost use Rattle.nec.specs.declared.decoder.NecState.the-variants.{Init, Receiving, Done, RepeatDone, Error};
 
 // Places of the spans, NONE for none of these; and the number of the last bit.
-const SYNC: u32 = 0;
+pub const SYNC: u32 = 0;
 
-const REPEAT: u32 = 1;
+pub const REPEAT: u32 = 1;
 
-const ZERO: u32 = 2;
+pub const ZERO: u32 = 2;
 
-const ONE: u32 = 3;
+pub const ONE: u32 = 3;
 
-const NONE: u32 = 8;
+pub const NONE: u32 = 8;
 
 const LAST: u32 = 31;
 
@@ -156,7 +156,7 @@ fn refused(memory: NecMemory) -> NecEventIn
 }
 
 // A pulse at a rising edge. It clears the saved number.
-fn next_of(m: NecMemory, place: u32) -> NecEventIn
+pub fn next_of(m: NecMemory, place: u32) -> NecEventIn
     ensures { λ r. ⌜ r ≡ eventIn (answered machine m (nextOf (m .state) place (m .bits))) ⌝ }
 {
     let state = m.state;
@@ -187,7 +187,7 @@ fn next_of(m: NecMemory, place: u32) -> NecEventIn
 }
 
 // A falling edge.
-fn save(m: NecMemory, duration: u32) -> NecEventIn
+pub fn save(m: NecMemory, duration: u32) -> NecEventIn
     ensures { λ r. ⌜ r ≡ eventIn (answered machine m (withSaved m duration)) ⌝ }
 {
     let state = m.state;
@@ -256,7 +256,7 @@ pub fn reset_in(m: NecMemory) -> NecMemory
 }
 
 // The same memory made anew, so that it stays in registers.
-fn again(m: NecMemory) -> NecMemory
+pub fn again(m: NecMemory) -> NecMemory
     ensures { λ r. ⌜ r ≡ m ⌝ }
 {
     let state = m.state;

@@ -7,16 +7,23 @@ use Rattle.reports.specs.declared.Report.{Report}
 use Rattle.reports.specs.declared.Report.the-variants as report
 use Rattle.reports.specs.Edges.{edge}
 use Rattle.reports.specs.Machine.{total}
-use Rattle.protocols.specs.Decoder.{machine, decoderOf, madeBy}
+use Rattle.protocols.specs.Decoder.{machine, decoderOf, madeBy, madeGuarded}
+use Rattle.protocols.specs.declared.decoder.Made.{Made}
 use Rattle.polled.specs.declared.Polled.{Polled}
 use Rattle.polled.specs.declared.PolledMade.{PolledMade}
 use Rattle.polled.specs.declared.PolledTotal.{PolledTotal}
 
--- "Clock, last edge time and last level start at 0, 0, low"; refusals 2, then 1
+-- "Clock, last edge time and last level start at 0, 0, low"
+abbrev pub started : Made → PolledMade
+started made = record { answer = made .answer; receiver = record { decoder = made .decoder; clock = 0; «last_edge» = 0; level = false } }
+
+-- refusals 2, then 1
 abbrev pub polledAt : ℕ → ℕ → PolledMade
-polledAt protocol rate =
-    let made = madeBy protocol rate in
-    record { answer = made .answer; receiver = record { decoder = made .decoder; clock = 0; «last_edge» = 0; level = false } }
+polledAt protocol rate = started (madeBy protocol rate)
+
+-- document 02, request 05: NEC in guarded mode. Refusal 1
+abbrev pub polledGuarded : ℕ → PolledMade
+polledGuarded rate = started (madeGuarded rate)
 
 -- "Each poll adds one to a 32-bit clock that goes round"
 abbrev pub ticked : ℕ → ℕ

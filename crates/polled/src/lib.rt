@@ -1,5 +1,6 @@
 // Document 01, "The polled receiver". One poll is `step`, by value. `poll_by_value` and `poll` call it; `poll` is lent the record that the caller keeps.
 use protocols::decoder::Decoder;
+use protocols::decoder::Made;
 use protocols::decoder::Memory;
 use protocols::decoder::past_end;
 use protocols::decoder::total_in;
@@ -7,7 +8,7 @@ use reports::Report;
 use spans::Answer;
 ghost use mathlib.Core.Path.{_≡_};
 ghost use Rattle.spans.specs.Spans.{columns};
-ghost use Rattle.polled.specs.Polled.{polledAt, pollOf};
+ghost use Rattle.polled.specs.Polled.{started, polledAt, polledGuarded, pollOf};
 ghost use Rattle.polled.specs.PolledSteps.{receiverOf, steppedTo, stepOf};
 
 // The decoder, the clock, the time of the last edge and the last level.
@@ -37,23 +38,35 @@ struct Stepped {
     memory: Memory,
 }
 
+fn started(made: Made) -> PolledMade
+    ensures { λ r. ⌜ r ≡ started made ⌝ }
+{
+    let answer = made.answer;
+    let decoder = made.decoder;
+    PolledMade {
+        answer,
+        receiver: Polled {
+            decoder,
+            clock: 0,
+            last_edge: 0,
+            level: false,
+        },
+    }
+}
+
 impl Polled {
     // Refusals: 2, then 1; the decoder then has the spans of the refused answer.
     pub fn new(protocol: u32, rate: u32) -> PolledMade
         ensures { λ r. ⌜ r ≡ polledAt protocol rate ⌝ }
     {
-        let made = Decoder::new(protocol, rate);
-        let answer = made.answer;
-        let decoder = made.decoder;
-        PolledMade {
-            answer,
-            receiver: Polled {
-                decoder,
-                clock: 0,
-                last_edge: 0,
-                level: false,
-            },
-        }
+        started(Decoder::new(protocol, rate))
+    }
+
+    // NEC in guarded mode. Refusal 1; the decoder then has the spans of the refused answer.
+    pub fn new_guarded(rate: u32) -> PolledMade
+        ensures { λ r. ⌜ r ≡ polledGuarded rate ⌝ }
+    {
+        started(Decoder::new_guarded(rate))
     }
 
     // The step, with the spans put beside it.

@@ -25,8 +25,8 @@ use Rattle.rc6.specs.Decoder as rc6Rules
 use Rattle.rc6.proofs.Laws as rc6
 use Rattle.rc5_encoder.proofs.Frame as rc5Frame
 use Rattle.rc6_encoder.proofs.Frame as rc6Frame
-use Rattle.typed_batches.specs.Batch.{edgesIn, isNothing, Numbered, numbered, answersOf, handful, batch}
-use Rattle.typed_batches.proofs.Singly.{alone, all-of-them}
+use Rattle.handfuls.specs.Batch.{edgesIn, isNothing, Numbered, numbered, answersOf, handful, batch}
+use Rattle.handfuls.proofs.Singly.{alone, all-of-them}
 use Rattle.promises.specs.Heard.{quiet, onlyAt, Heard, spansAt1MHz}
 use Rattle.promises.specs.HeardInBatch.{levelsFrom, answerNumbers, firstAnswer, HeardInBatch, EveryNecInBatch, EveryRc5InBatch, EveryRc6InBatch}
 use Rattle.promises.proofs.NecHeard.{nec-heard, nec-closed-heard}
@@ -140,7 +140,7 @@ module _ (M : Machine) (spans : Spans) where
 not-refused : (past : Bool) → past ≡ false → _≡_ {A = ℕ} (cond past 4 0) 0
 not-refused past e = rw e
 
-nec-taken : (earlier : List Edge) → necRules.machine .refusal (runAfter necRules.machine (spansAt1MHz 1) (necRules.machine .fresh) earlier) ≡ 0
+pub nec-taken : (earlier : List Edge) → necRules.machine .refusal (runAfter necRules.machine (spansAt1MHz 1) (necRules.machine .fresh) earlier) ≡ 0
 nec-taken earlier =
     let state = runAfter necRules.machine (spansAt1MHz 1) (necRules.machine .fresh) earlier .state in
     not-refused (necRules.pastEnd state) (nec.reachable-in-reach state (nec.run-reachable (spansAt1MHz 1) earlier))

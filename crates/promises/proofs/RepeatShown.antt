@@ -24,11 +24,11 @@ use Rattle.nec.proofs.Starred.{freshReports}
 use Rattle.promises.specs.Heard.{spansAt1MHz, NothingOrData, nothing, broken}
 use Rattle.promises.specs.Repeat.{reads, opens, taken, gatheredFrom, fresh, synced}
 use Rattle.promises.specs.RepeatShown.{RepeatShown}
-use Rattle.promises.specs.Totals.{atPairs, PairsReport, paired}
+use Rattle.promises.specs.Totals.{atPairs, PairsReport, PairsReportBy, paired}
 use Rattle.promises.proofs.RepeatEdge.{sync-forgets}
 
 by-one : (pulses : List ℕ) (all : List Numbers) → map reportNumbers (freshReports (edgesAt pulses)) ≡ atPairs all → PairsReport pulses all
-unfolding PairsReport
+unfolding PairsReportBy
 by-one pulses all computed pairs parted =
     ap (map reportNumbers) (by-totals (spansAt1MHz 1) fresh refl pairs) ∙ ap (λ (ts : List ℕ). map reportNumbers (freshReports (edgesAt ts))) parted ∙ computed
 

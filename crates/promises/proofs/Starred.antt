@@ -9,11 +9,11 @@ use Rattle.frames.specs.Frames.{encodedNumber, encodedLength}
 use Rattle.reports.specs.Reports.{reportNumbers}
 use Rattle.rc5_encoder.proofs.Starred.{starred-frame, starred-length, starred-short, starred-untouched}
 use Rattle.nec.proofs.Starred.{broken-frame-then-repeat}
-use Rattle.promises.specs.Totals.{atPairs, PairsReport}
+use Rattle.promises.specs.Totals.{atPairs, PairsReportBy}
 use Rattle.promises.specs.Starred.{Starred}
 
 pub starred : Starred
-unfolding spansOf atPairs PairsReport
+unfolding spansOf atPairs PairsReportBy
 starred =
     record {
       nec-4-8-packs = nec-4-8;

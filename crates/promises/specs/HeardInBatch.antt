@@ -24,8 +24,8 @@ use Rattle.rc5.specs.Decoder as rc5
 use Rattle.rc5_encoder.specs.Encoder.{rc5Frame}
 use Rattle.rc6.specs.Decoder as rc6
 use Rattle.rc6_encoder.specs.Encoder.{rc6Frame}
-use Rattle.typed_batches.specs.Batch.{Numbered, batch}
-use Rattle.typed_batches.specs.declared.Reason.the-variants.{AllUsed}
+use Rattle.handfuls.specs.Batch.{Numbered, batch}
+use Rattle.handfuls.specs.declared.Reason.the-variants.{AllUsed}
 use Rattle.promises.specs.Heard.{Near, NothingOrData, OnlyNothing, spansAt1MHz, key}
 
 -- "in alternating edges": so many levels, the first one as told

@@ -8,7 +8,7 @@ use Rattle.commands.specs.declared.Command.the-variants as command
 use Rattle.commands.specs.declared.nec.NecCommand.{NecCommand}
 use Rattle.reports.specs.Reports.{Numbers, reportNumbers}
 use Rattle.reports.specs.Edges.{Pair, totals, edgesOf}
-use Rattle.reports.specs.Machine.{runReports}
+use Rattle.reports.specs.Machine.{Machine, runReports}
 use Rattle.reports.specs.declared.Fault.the-variants.{Data}
 use Rattle.reports.specs.declared.Report.the-variants as report
 use Rattle.nec.specs.Decoder as nec
@@ -27,11 +27,14 @@ unfoldable pub atPairs : List Numbers → List Numbers
 atPairs [] = []
 atPairs (report ∷ reports) = nothing ∷ report ∷ atPairs reports
 
--- whatever pairs have these totals, this is reported at each
-unfoldable pub PairsReport : List ℕ → List Numbers → Type 0
-PairsReport pulses reports =
+-- whatever pairs have these totals, this is reported at each: by a receiver of NEC's spans, and by the plain one
+unfoldable pub PairsReportBy : Machine → List ℕ → List Numbers → Type 0
+PairsReportBy machine pulses reports =
     (pairs : List Pair) → totals pairs ≡ pulses
-    → map reportNumbers (runReports nec.machine (spansAt1MHz 1) (nec.machine .fresh) (edgesOf pairs)) ≡ atPairs reports
+    → map reportNumbers (runReports machine (spansAt1MHz 1) (machine .fresh) (edgesOf pairs)) ≡ atPairs reports
+
+abbrev pub PairsReport : List ℕ → List Numbers → Type 0
+PairsReport = PairsReportBy nec.machine
 
 -- what is reported of a key: it was pressed, it is held
 abbrev pub pressed : ℕ → ℕ → Numbers

@@ -10,6 +10,7 @@ use Rattle.protocols.proofs.decoder.command_in as command-in
 use Rattle.protocols.proofs.decoder.reset_in as reset-in
 use Rattle.protocols.proofs.decoder.total_in as total-in
 use Rattle.protocols.proofs.decoder.Decoder.new as new
+use Rattle.protocols.proofs.decoder.Decoder.new_guarded as new-guarded
 use Rattle.protocols.proofs.decoder.Decoder.event as event
 use Rattle.protocols.proofs.decoder.Decoder.command as command
 use Rattle.protocols.proofs.decoder.Decoder.reset as reset
@@ -44,6 +45,9 @@ total-in-fixed M 𝓤 H 𝓜 𝓖 𝓡 = (total-in.Met.met 𝓤 H 𝓜 𝓖 𝓡
 
 new-fixed : Fixed new.ended (λ M. new.clauses) new.Symbol.routine
 new-fixed M 𝓤 H 𝓜 𝓖 𝓡 = (new.Met.met 𝓤 H 𝓜 𝓖 𝓡, λ κs a. asks-nothing 𝓤, λ κs a g h r s v w. both one one alike)
+
+new-guarded-fixed : Fixed new-guarded.ended (λ M. new-guarded.clauses) new-guarded.Symbol.routine
+new-guarded-fixed M 𝓤 H 𝓜 𝓖 𝓡 = (new-guarded.Met.met 𝓤 H 𝓜 𝓖 𝓡, λ κs a. asks-nothing 𝓤, λ κs a g h r s v w. both one one alike)
 
 event-fixed : Fixed event.ended (λ M. event.clauses) event.Symbol.routine
 event-fixed M 𝓤 H 𝓜 𝓖 𝓡 = (event.Met.met 𝓤 H 𝓜 𝓖 𝓡, λ κs a. asks-nothing 𝓤, λ κs a g h r s v w. both one one alike)

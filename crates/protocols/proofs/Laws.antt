@@ -10,8 +10,9 @@ use Rattle.rc5.specs.Decoder as rc5
 use Rattle.rc6.specs.Decoder as rc6
 use Rattle.sbp.specs.Decoder as sbp
 use Rattle.denon.specs.Decoder as denon
+use Rattle.guarded.specs.Decoder as guarded
 use Rattle.protocols.specs.declared.decoder.Memory.{Memory}
-use Rattle.protocols.specs.declared.decoder.Memory.the-variants.{Nec, Rc5, Rc6, Sbp, Denon}
+use Rattle.protocols.specs.declared.decoder.Memory.the-variants.{Nec, Rc5, Rc6, Sbp, Denon, Guarded}
 use Rattle.protocols.specs.Decoder.{protocolOf, stepIn, freshOf, machine}
 
 -- ---- the decoder by number is the protocol's own
@@ -36,6 +37,10 @@ pub denon-own : Inside denon.machine machine Denon
 unfolding stepIn
 denon-own = search
 
+pub guarded-own : Inside guarded.machine machine Guarded
+unfolding stepIn
+guarded-own = search
+
 pub fresh-own
     : (freshOf 1 ≡ Nec (nec.machine .fresh))
     × (freshOf 2 ≡ Rc5 (rc5.machine .fresh))
@@ -53,6 +58,7 @@ module _ (spans : Spans) (edge : Edge) where
   event-keeps-protocol (Rc6 m) = ap (λ (a : EventAnswer Memory). protocolOf (a .memory)) (event-own rc6-own spans m edge)
   event-keeps-protocol (Sbp m) = ap (λ (a : EventAnswer Memory). protocolOf (a .memory)) (event-own sbp-own spans m edge)
   event-keeps-protocol (Denon m) = ap (λ (a : EventAnswer Memory). protocolOf (a .memory)) (event-own denon-own spans m edge)
+  event-keeps-protocol (Guarded m) = ap (λ (a : EventAnswer Memory). protocolOf (a .memory)) (event-own guarded-own spans m edge)
 
   pub total-keeps-protocol : (m : Memory) → protocolOf (total machine spans m edge .memory) ≡ protocolOf m
   total-keeps-protocol (Nec m) = ap (λ (r : TotalAnswer Memory). protocolOf (r .memory)) (total-own nec-own spans m edge)
@@ -60,3 +66,4 @@ module _ (spans : Spans) (edge : Edge) where
   total-keeps-protocol (Rc6 m) = ap (λ (r : TotalAnswer Memory). protocolOf (r .memory)) (total-own rc6-own spans m edge)
   total-keeps-protocol (Sbp m) = ap (λ (r : TotalAnswer Memory). protocolOf (r .memory)) (total-own sbp-own spans m edge)
   total-keeps-protocol (Denon m) = ap (λ (r : TotalAnswer Memory). protocolOf (r .memory)) (total-own denon-own spans m edge)
+  total-keeps-protocol (Guarded m) = ap (λ (r : TotalAnswer Memory). protocolOf (r .memory)) (total-own guarded-own spans m edge)

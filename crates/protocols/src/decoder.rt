@@ -1,9 +1,14 @@
-// A decoder of any protocol, by its number. Each call is the protocol's own, over the memory that the enum holds.
+// A decoder of any protocol, by its number; and NEC in guarded mode, which a call of its own opens. Each call is the protocol's own, over the memory that the enum holds.
 use denon::decoder::DenonEventIn;
 use denon::decoder::DenonMemory;
 use denon::decoder::DenonTotalIn;
 use denon::decoder::event_in as denon_event;
 use denon::decoder::total_in as denon_total;
+use guarded::decoder::GuardedEventIn;
+use guarded::decoder::GuardedMemory;
+use guarded::decoder::GuardedTotalIn;
+use guarded::decoder::event_in as guarded_event;
+use guarded::decoder::total_in as guarded_total;
 use nec::decoder::NecEventIn;
 use nec::decoder::NecMemory;
 use nec::decoder::NecTotalIn;
@@ -32,7 +37,7 @@ ghost use mathlib.Core.Path.{_≡_};
 ghost use Rattle.spans.specs.Spans.{columns};
 ghost use Rattle.reports.specs.Edges.{edge};
 ghost use Rattle.reports.specs.Machine.{event, total};
-ghost use Rattle.protocols.specs.Decoder.{pastEnd, freshOf, machine, eventIn, totalIn, decoderOf, madeBy, edgeEvent, edgeTotal};
+ghost use Rattle.protocols.specs.Decoder.{pastEnd, freshOf, machine, eventIn, totalIn, decoderOf, madeBy, madeGuarded, edgeEvent, edgeTotal};
 
 pub enum Memory {
     Nec(NecMemory),
@@ -40,6 +45,7 @@ pub enum Memory {
     Rc6(Rc6Memory),
     Sbp(SbpMemory),
     Denon(DenonMemory),
+    Guarded(GuardedMemory),
 }
 
 // One record of any protocol.
@@ -84,6 +90,7 @@ pub fn past_end(memory: Memory) -> bool
         Memory::Rc6(m) => rc6::decoder::past_end(m),
         Memory::Sbp(m) => sbp::decoder::past_end(m),
         Memory::Denon(m) => denon::decoder::past_end(m),
+        Memory::Guarded(m) => guarded::decoder::past_end(m),
     }
 }
 
@@ -136,6 +143,18 @@ pub fn event_in<'a>(
             let memory = Memory::Denon(memory);
             EventIn { status, memory }
         }
+        Memory::Guarded(m) => {
+            let GuardedEventIn { status, memory } = guarded_event(
+                base,
+                low,
+                high,
+                m,
+                rising,
+                duration,
+            );
+            let memory = Memory::Guarded(memory);
+            EventIn { status, memory }
+        }
     }
 }
 
@@ -148,6 +167,7 @@ pub fn command_in(memory: Memory) -> Report
         Memory::Rc6(m) => rc6::decoder::command_in(m),
         Memory::Sbp(m) => sbp::decoder::command_in(m),
         Memory::Denon(m) => denon::decoder::command_in(m),
+        Memory::Guarded(m) => guarded::decoder::command_in(m),
     }
 }
 
@@ -160,6 +180,7 @@ pub fn reset_in(memory: Memory) -> Memory
         Memory::Rc6(m) => Memory::Rc6(rc6::decoder::reset_in(m)),
         Memory::Sbp(m) => Memory::Sbp(sbp::decoder::reset_in(m)),
         Memory::Denon(m) => Memory::Denon(denon::decoder::reset_in(m)),
+        Memory::Guarded(m) => Memory::Guarded(guarded::decoder::reset_in(m)),
     }
 }
 
@@ -199,6 +220,18 @@ pub fn total_in<'a>(
             let memory = Memory::Denon(memory);
             TotalIn { report, memory }
         }
+        Memory::Guarded(m) => {
+            let GuardedTotalIn { report, memory } = guarded_total(
+                base,
+                low,
+                high,
+                m,
+                rising,
+                duration,
+            );
+            let memory = Memory::Guarded(memory);
+            TotalIn { report, memory }
+        }
     }
 }
 
@@ -211,6 +244,20 @@ impl Decoder {
         let answer = made.answer;
         let spans = made.spans;
         let memory = fresh_of(protocol);
+        Made {
+            answer,
+            decoder: Decoder { spans, memory },
+        }
+    }
+
+    // NEC in guarded mode. Refusal 1; the decoder then has the spans of the refused answer.
+    pub fn new_guarded(rate: u32) -> Made
+        ensures { λ r. ⌜ r ≡ madeGuarded rate ⌝ }
+    {
+        let made = spans::spans_of(1, rate);
+        let answer = made.answer;
+        let spans = made.spans;
+        let memory = Memory::Guarded(guarded::decoder::fresh());
         Made {
             answer,
             decoder: Decoder { spans, memory },

@@ -7,8 +7,8 @@ use Prim.Native.Nat.{ℕ}
 use Rattle.refusals.specs.Refusals.{protocolTaken}
 use Rattle.protocols.specs.Decoder.{decoderOf}
 use Rattle.protocols.specs.declared.decoder.Memory.{Memory}
-use Rattle.protocols.specs.declared.decoder.Memory.the-variants.{Nec, Rc5, Rc6, Sbp, Denon}
-use Rattle.typed_batches.specs.Batch.{Handful}
+use Rattle.protocols.specs.declared.decoder.Memory.the-variants.{Nec, Rc5, Rc6, Sbp, Denon, Guarded}
+use Rattle.handfuls.specs.Batch.{Handful}
 use Rattle.seat_numbers.specs.Receiver.{at, memoryNumbers, spansNumbers, spansFrom, decoderFrom}
 use Rattle.seat_numbers.proofs.RoundTrip.{Fits, decoder-back}
 use Rattle.seat.specs.Seat.{isRefused, receiverAfter}
@@ -19,6 +19,7 @@ protocol-first (Rc5 m) rest = refl
 protocol-first (Rc6 m) rest = refl
 protocol-first (Sbp m) rest = refl
 protocol-first (Denon m) rest = refl
+protocol-first (Guarded m) rest = refl
 
 module _ (receiver : List ℕ) (h : Handful Memory) (passes : isRefused (h .reason) ≡ false) where
   pub not-refused : protocolTaken (at (receiverAfter receiver h) 0) ≡ true

@@ -6,6 +6,7 @@ use Rattle.seat.proofs.seat_encode_closed as seat-encode-closed
 use Rattle.seat.proofs.seat_lookup as seat-lookup
 use Rattle.seat.proofs.seat_measure as seat-measure
 use Rattle.seat.proofs.seat_open as seat-open
+use Rattle.seat.proofs.seat_open_guarded as seat-open-guarded
 use Rattle.seat.proofs.seat_edges as seat-edges
 
 seat-encode-fixed : Fixed seat-encode.ended (λ M. seat-encode.clauses) seat-encode.Symbol.routine
@@ -27,6 +28,10 @@ seat-measure-fixed M 𝓤 H 𝓜 𝓖 𝓡 =
 seat-open-fixed : Fixed seat-open.ended (λ M. seat-open.clauses) seat-open.Symbol.routine
 seat-open-fixed M 𝓤 H 𝓜 𝓖 𝓡 =
     (seat-open.Met.met 𝓤 H 𝓜 𝓖 𝓡, λ κs a. asks-nothing 𝓤, λ κs a g h r s v w. both (one & one) (one & one) (λ p q. (meet (p .0) (q .0), refl ⨾ refl ⨾ meet (p .1) (q .1) ⨾ refl)))
+
+seat-open-guarded-fixed : Fixed seat-open-guarded.ended (λ M. seat-open-guarded.clauses) seat-open-guarded.Symbol.routine
+seat-open-guarded-fixed M 𝓤 H 𝓜 𝓖 𝓡 =
+    (seat-open-guarded.Met.met 𝓤 H 𝓜 𝓖 𝓡, λ κs a. asks-nothing 𝓤, λ κs a g h r s v w. both (one & one) (one & one) (λ p q. (meet (p .0) (q .0), refl ⨾ meet (p .1) (q .1) ⨾ refl)))
 
 seat-edges-fixed : Fixed seat-edges.ended (λ M. seat-edges.clauses) seat-edges.Symbol.routine
 seat-edges-fixed M 𝓤 H 𝓜 𝓖 𝓡 =

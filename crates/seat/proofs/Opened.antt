@@ -1,6 +1,6 @@
 -- The numbers of a fresh decoder are its protocol's number, 0 seven times and the numbers of its spans, whatever the protocol. By cases on the five numbers.
 -- Assumes nothing.
-use mathlib.Core.Path.{_≡_, refl, sym, ap, _∙_}
+use mathlib.Core.Path.{_≡_, refl, ap}
 use mathlib.Core.Bool.{Bool, true, false, cond, _&&_}
 use mathlib.Core.List.{List, _++_}
 use Prim.Native.Nat.{ℕ, zero, suc, _≤_}
@@ -9,11 +9,10 @@ use borrow.Author.Tests.{leb-true}
 use lib.Dec.{leb}
 use Rattle.refusals.specs.Refusals.{badProtocol, badRate, protocolTaken, rateTaken}
 use Rattle.spans.specs.Spans.{spansOf, spansAt, refused, refusalNumber}
-use Rattle.spans.specs.declared.SpansAnswer.{SpansAnswer}
 use Rattle.spans.specs.declared.Answer.{Answer}
 use Rattle.spans.specs.declared.Answer.the-variants.{Taken, Refused}
 use Rattle.protocols.specs.Decoder.{freshOf, madeBy}
-use Rattle.seat_numbers.specs.Receiver.{eightOf, memoryNumbers, spansNumbers, numbersOf}
+use Rattle.seat_numbers.specs.Receiver.{eightOf, memoryNumbers, freshNumbers, numbersOf}
 use Rattle.seat.specs.Seat.{openedAfter}
 
 fresh-numbers : (protocol : ℕ) → 1 ≤ protocol → protocol ≤ 5 → memoryNumbers (freshOf protocol) ≡ eightOf protocol (0, 0) 0 0 0 0 0
@@ -39,21 +38,17 @@ within-five protocol rate = go (leb 1 protocol) (leb protocol 5) (rateTaken rate
     go true false rated l h taken = absurd (omega (arith, ap refusalNumber taken))
     go false high rated l h taken = absurd (omega (arith, ap refusalNumber taken))
 
-module _ (protocol rate : ℕ) (held : List ℕ) (built : SpansAnswer) (is : built ≡ spansOf protocol rate) where
+-- so what `open_as` leaves is what `seat_open` promises
+module _ (protocol rate : ℕ) (held left : List ℕ) where
   pub opened
-      : built .answer ≡ Taken
-      → (0 ≡ refusalNumber (madeBy protocol rate .answer))
-      × (eightOf protocol (0, 0) 0 0 0 0 0 ++ spansNumbers (built .spans)
-      ≡ openedAfter (madeBy protocol rate .answer) (numbersOf (madeBy protocol rate .decoder)) held)
-  opened at =
-      let taken : spansOf protocol rate .answer ≡ Taken = sym (ap (λ (b : SpansAnswer). b .answer) is) ∙ at in
-      let (low, high) = within-five protocol rate taken in
-      (rw taken, rw (taken, is, fresh-numbers protocol low high))
-
-  pub not-opened
-      : (number : ℕ) → built .answer ≡ Refused number
-      → (number ≡ refusalNumber (madeBy protocol rate .answer))
-      × (held ≡ openedAfter (madeBy protocol rate .answer) (numbersOf (madeBy protocol rate .decoder)) held)
-  not-opened number at =
-      let told : spansOf protocol rate .answer ≡ Refused number = sym (ap (λ (b : SpansAnswer). b .answer) is) ∙ at in
-      (rw told, rw told)
+      : left ≡ openedAfter (spansOf protocol rate .answer) (freshNumbers protocol 0 (spansOf protocol rate .spans)) held
+      → left ≡ openedAfter (madeBy protocol rate .answer) (numbersOf (madeBy protocol rate .decoder)) held
+  opened = go (spansOf protocol rate .answer) refl
+    where
+      go : (answer : Answer) → spansOf protocol rate .answer ≡ answer
+          → left ≡ openedAfter answer (freshNumbers protocol 0 (spansOf protocol rate .spans)) held
+          → left ≡ openedAfter answer (numbersOf (madeBy protocol rate .decoder)) held
+      go Taken taken is =
+          let (low, high) = within-five protocol rate taken in
+          rw (is, fresh-numbers protocol low high)
+      go (Refused number) told is = is

@@ -7,10 +7,10 @@ use Rattle.refusals.specs.Refusals.{badProtocol, protocolTaken}
 use Rattle.protocols.specs.Decoder.{machine, decoderOf}
 use Rattle.protocols.specs.declared.decoder.Memory.{Memory}
 use Rattle.protocols.specs.declared.decoder.Decoder.{Decoder}
-use Rattle.typed_batches.specs.Batch.{Handful}
-use Rattle.typed_batches.specs.Columns.{batchInto, edgesLeft, kindsLeft, valuesLeft}
-use Rattle.typed_batches.specs.declared.Reason.{Reason}
-use Rattle.typed_batches.specs.declared.Reason.the-variants.{AllUsed, NoRoom, Refused}
+use Rattle.handfuls.specs.Batch.{Handful}
+use Rattle.handfuls.specs.Columns.{batchInto, edgesLeft, kindsLeft, valuesLeft}
+use Rattle.handfuls.specs.declared.Reason.{Reason}
+use Rattle.handfuls.specs.declared.Reason.the-variants.{AllUsed, NoRoom, Refused}
 use Rattle.batches.specs.Batched.{batchedOf}
 use Rattle.batches.specs.declared.Batched.{Batched}
 use Rattle.seat_numbers.specs.Receiver.{at, numbersOf, spansFrom, decoderFrom}

@@ -17,11 +17,11 @@ use Rattle.frames.specs.declared.Encoded.{Encoded}
 use Rattle.frames.specs.declared.Encoded.the-variants as encoded
 use Rattle.protocols.specs.Decoder.{machine, decoderOf}
 use Rattle.protocols.specs.declared.decoder.Memory.{Memory}
-use Rattle.typed_batches.specs.Batch.{Handful, refused}
-use Rattle.typed_batches.specs.Columns.{batchInto}
-use Rattle.typed_batches.specs.declared.Reason.{Reason}
-use Rattle.typed_batches.specs.declared.Reason.the-variants as reason
-use Rattle.typed_batches.specs.declared.Reason.the-variants.{AllUsed, NoRoom}
+use Rattle.handfuls.specs.Batch.{Handful, refused}
+use Rattle.handfuls.specs.Columns.{batchInto}
+use Rattle.handfuls.specs.declared.Reason.{Reason}
+use Rattle.handfuls.specs.declared.Reason.the-variants as reason
+use Rattle.handfuls.specs.declared.Reason.the-variants.{AllUsed, NoRoom}
 use Rattle.seat_numbers.specs.Receiver.{at, spansFrom, numbersOf, decoderFrom}
 use Rattle.seat.specs.declared.LookedUp.{LookedUp}
 use Rattle.seat.specs.declared.LookedUp.the-variants as looked

@@ -2,18 +2,18 @@
 // the caller owes.
 // Each call returns 0 or document 01's refusal number, and stores its result in what the caller lends. A refusal stores nothing, except that 3 stores the length needed.
 use frames::Encoded;
+use handfuls::Reason;
 use spans::Answer;
 use spans::Found;
-use typed_batches::Reason;
 ghost use mathlib.Core.Path.{_≡_};
 ghost use Rattle.refusals.specs.Refusals.{closedTaken};
 ghost use Rattle.frames.specs.Frames.{encodedNumber};
-ghost use Rattle.spans.specs.Spans.{refusalNumber};
-ghost use Rattle.protocols.specs.Decoder.{madeBy};
+ghost use Rattle.spans.specs.Spans.{spansOf, refusalNumber};
+ghost use Rattle.protocols.specs.Decoder.{madeBy, madeGuarded};
 ghost use Rattle.protocols.specs.Encoder.{frameBy, encodedBy, leftBy, closedBy, encodedIf, leftIf};
-ghost use Rattle.typed_batches.specs.Columns.{edgesLeft, kindsLeft, valuesLeft};
+ghost use Rattle.handfuls.specs.Columns.{edgesLeft, kindsLeft, valuesLeft};
 ghost use Rattle.seat.specs.Seat.{lengthAfter, lookedUp, lookupNumber, placeAfter, differenceAfter, openedAfter, edgesTaken, isRefused, reasonNumber, receiverAfter, usedAfter, countAfter};
-ghost use Rattle.seat_numbers.specs.Receiver.{numbersOf};
+ghost use Rattle.seat_numbers.specs.Receiver.{freshNumbers, numbersOf};
 
 // What a call on frames returns and stores of an encoder's answer.
 fn told(encoded: Encoded, length: &mut usize) -> u32
@@ -133,22 +133,39 @@ pub extern "C" fn seat_measure(
     }
 }
 
-// A fresh receiver of a protocol, 1 to 5, at a rate, as numbers that the caller keeps. Refusals: 2, then 1; `receiver` is then as it was.
-#[no_mangle]
-pub extern "C" fn seat_open(protocol: u32, rate: u32, receiver: &mut [u32; 32]) -> u32
-    ensures number { λ r. ⌜ r ≡ refusalNumber (madeBy protocol rate .answer) ⌝ }
-    ensures receiver { λ _. ⌜ now (receiver .exit) ≡ openedAfter (madeBy protocol rate .answer) (numbersOf (madeBy protocol rate .decoder)) (now (receiver .entry)) ⌝ }
+// A fresh receiver, as numbers that the caller keeps. `guarded` is 1 for NEC in guarded mode, and else 0.
+fn open_as(protocol: u32, guarded: u32, rate: u32, receiver: &mut [u32; 32]) -> u32
+    ensures number { λ r. ⌜ r ≡ refusalNumber (spansOf protocol rate .answer) ⌝ }
+    ensures receiver { λ _. ⌜ now (receiver .exit) ≡ openedAfter (spansOf protocol rate .answer) (freshNumbers protocol guarded (spansOf protocol rate .spans)) (now (receiver .entry)) ⌝ }
 {
     let built = spans::spans_of(protocol, rate);
     let answer = built.answer;
     let spans = built.spans;
     match answer {
         Answer::Taken => {
-            seat_numbers::put_fresh(receiver, protocol, spans);
+            seat_numbers::put_fresh(receiver, protocol, guarded, spans);
             refusals::NONE
         }
         Answer::Refused(number) => number,
     }
+}
+
+// A fresh receiver of a protocol, 1 to 5, at a rate. Refusals: 2, then 1; `receiver` is then as it was.
+#[no_mangle]
+pub extern "C" fn seat_open(protocol: u32, rate: u32, receiver: &mut [u32; 32]) -> u32
+    ensures number { λ r. ⌜ r ≡ refusalNumber (madeBy protocol rate .answer) ⌝ }
+    ensures receiver { λ _. ⌜ now (receiver .exit) ≡ openedAfter (madeBy protocol rate .answer) (numbersOf (madeBy protocol rate .decoder)) (now (receiver .entry)) ⌝ }
+{
+    open_as(protocol, 0, rate, receiver)
+}
+
+// A fresh receiver of NEC in guarded mode, at a rate. Refusal 1; `receiver` is then as it was.
+#[no_mangle]
+pub extern "C" fn seat_open_guarded(rate: u32, receiver: &mut [u32; 32]) -> u32
+    ensures number { λ r. ⌜ r ≡ refusalNumber (madeGuarded rate .answer) ⌝ }
+    ensures receiver { λ _. ⌜ now (receiver .exit) ≡ openedAfter (madeGuarded rate .answer) (numbersOf (madeGuarded rate .decoder)) (now (receiver .entry)) ⌝ }
+{
+    open_as(1, 1, rate, receiver)
 }
 
 // Whether a batch was refused.

@@ -25,7 +25,7 @@ use Rattle.denon.specs.declared.decoder.DenonState.{DenonState}
 use Rattle.denon.specs.declared.decoder.DenonState.the-variants as denon
 use Rattle.protocols.specs.Decoder.{decoderOf}
 use Rattle.protocols.specs.declared.decoder.Memory.{Memory}
-use Rattle.protocols.specs.declared.decoder.Memory.the-variants.{Nec, Rc5, Rc6, Sbp, Denon}
+use Rattle.protocols.specs.declared.decoder.Memory.the-variants.{Nec, Rc5, Rc6, Sbp, Denon, Guarded}
 use Rattle.protocols.specs.declared.decoder.Decoder.{Decoder}
 use Rattle.seat_numbers.specs.Receiver.{
   lowHalf,
@@ -62,6 +62,7 @@ Fits (Rc5 m) = (rc5State (m .state) .1 < 256) × (m .bits < 65536)
 Fits (Rc6 m) = (m .«data» < 65536) × (m .header < 65536)
 Fits (Sbp m) = (sbpState (m .state) .1 < 65536) × (m .address < 65536)
 Fits (Denon m) = denonState (m .state) .1 < 256
+Fits (Guarded m) = Unit {0}
 
 halves : (n : ℕ) → wide (lowHalf n) (highHalf n) ≡ n
 halves n = omega arith
@@ -123,6 +124,7 @@ memory-back (Rc5 m) fits rest = rw (rc5-back (m .state) (fits .0), small-16 (fit
 memory-back (Rc6 m) fits rest = rw (rc6-back (m .state), small-16 (fits .0), small-16 (fits .1), flag (m .toggle), halves (m .clock))
 memory-back (Sbp m) fits rest = rw (sbp-back (m .state) (fits .0), small-16 (fits .1))
 memory-back (Denon m) fits rest = rw (denon-back (m .state) fits, halves (m .bits))
+memory-back (Guarded m) fits rest = rw (nec-back (m .nec .state), flag (m .mark))
 
 -- whatever is remembered, eight numbers come before the spans
 spans-after : (m : Memory) (f g h : ℕ → ℕ) → spansFrom (memoryNumbers m ++ (eight f ++ (eight g ++ eight h))) ≡ columns (eight f) (eight g) (eight h)
@@ -131,6 +133,7 @@ spans-after (Rc5 m) f g h = refl
 spans-after (Rc6 m) f g h = refl
 spans-after (Sbp m) f g h = refl
 spans-after (Denon m) f g h = refl
+spans-after (Guarded m) f g h = refl
 
 spans-back
     : (m : Memory) (base low high : List ℕ) → length base ≡ 8 → length low ≡ 8 → length high ≡ 8

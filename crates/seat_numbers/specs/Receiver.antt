@@ -1,7 +1,8 @@
 -- A decoder as 32 plain numbers, which firmware in C keeps between two calls; and the decoder that any 32 numbers are. The numbers are, by place:
---     0          the protocol's number
+--     0          the protocol's number; in guarded mode NEC's
 --     1, 2       the state: its case, counted from 0 in document 01's order; its bit counter or the number of its fault
---     3 to 7     what else is remembered, in the order of the record; a field of 64 bits as its low and its high half, a flag as 1 or 0
+--     3 to 7     what else is remembered, in the order of the record; a field of 64 bits as its low and its high half, a flag as 1 or 0. NEC has two more
+--                numbers in guarded mode (document 02, request 05): 1 at place 5, and the mark at place 6
 --     8 to 31    eight bases, eight low ends, eight high ends
 -- What there is not is 0.
 use Prim.Native.Nat.{ℕ, _+_, _*_, _/_, _%_, _^_}
@@ -30,9 +31,10 @@ use Rattle.sbp.specs.declared.decoder.SbpMemory.{SbpMemory}
 use Rattle.denon.specs.declared.decoder.DenonState.{DenonState}
 use Rattle.denon.specs.declared.decoder.DenonState.the-variants as denon
 use Rattle.denon.specs.declared.decoder.DenonMemory.{DenonMemory}
+use Rattle.guarded.specs.declared.decoder.GuardedMemory.{GuardedMemory}
 use Rattle.protocols.specs.Decoder.{decoderOf}
 use Rattle.protocols.specs.declared.decoder.Memory.{Memory}
-use Rattle.protocols.specs.declared.decoder.Memory.the-variants.{Nec, Rc5, Rc6, Sbp, Denon}
+use Rattle.protocols.specs.declared.decoder.Memory.the-variants.{Nec, Rc5, Rc6, Sbp, Denon, Guarded}
 use Rattle.protocols.specs.declared.decoder.Decoder.{Decoder}
 
 -- the number at a place
@@ -103,18 +105,26 @@ sbpNumbers m = eightOf 4 (sbpState (m .state)) (m .address) (m .command) (m .sav
 abbrev pub denonNumbers : DenonMemory → List ℕ
 denonNumbers m = eightOf 5 (denonState (m .state)) (lowHalf (m .bits)) (highHalf (m .bits)) (m .saved) 0 0
 
+abbrev pub guardedNumbers : GuardedMemory → List ℕ
+guardedNumbers m = eightOf 1 (necState (m .nec .state)) (m .nec .bits) (m .nec .saved) 1 (bitOf (m .mark)) 0
+
 abbrev pub memoryNumbers : Memory → List ℕ
 memoryNumbers (Nec m) = necNumbers m
 memoryNumbers (Rc5 m) = rc5Numbers m
 memoryNumbers (Rc6 m) = rc6Numbers m
 memoryNumbers (Sbp m) = sbpNumbers m
 memoryNumbers (Denon m) = denonNumbers m
+memoryNumbers (Guarded m) = guardedNumbers m
 
 abbrev pub spansNumbers : Spans → List ℕ
 spansNumbers spans = spans .base ++ (spans .low ++ spans .high)
 
 abbrev pub numbersOf : Decoder → List ℕ
 numbersOf d = memoryNumbers (d .memory) ++ spansNumbers (d .spans)
+
+-- of a fresh decoder; `guarded` is 1 for NEC in guarded mode, and else 0
+abbrev pub freshNumbers : (protocol guarded : ℕ) → Spans → List ℕ
+freshNumbers protocol guarded spans = eightOf protocol (0, 0) 0 0 guarded 0 0 ++ spansNumbers spans
 
 -- the first eight of 32 numbers are stored, one after the other
 abbrev pub firstStored : (first numbers : List ℕ) → List ℕ
@@ -182,12 +192,16 @@ sbpMemory n = record { state = sbpFrom (at n 1) (at n 2); address = at n 3 % 655
 unfoldable pub denonMemory : List ℕ → DenonMemory
 denonMemory n = record { state = denonFrom (at n 1) (at n 2); bits = wide (at n 3) (at n 4); saved = at n 5 }
 
+-- NEC in guarded mode where place 5 is 1, and else plain
+abbrev pub necOrGuarded : List ℕ → Memory
+necOrGuarded n = cond (eqb (at n 5) 1) (Guarded (record { nec = necMemory n; mark = eqb (at n 6) 1 })) (Nec (necMemory n))
+
 -- a protocol that is none of 1 to 5 is refused before it is looked at (`edgesTaken` of `seat`)
 abbrev pub memoryFrom : List ℕ → Memory
 memoryFrom n =
     cond (eqb (at n 0) 2) (Rc5 (rc5Memory n))
     (cond (eqb (at n 0) 3) (Rc6 (rc6Memory n))
-    (cond (eqb (at n 0) 4) (Sbp (sbpMemory n)) (cond (eqb (at n 0) 5) (Denon (denonMemory n)) (Nec (necMemory n)))))
+    (cond (eqb (at n 0) 4) (Sbp (sbpMemory n)) (cond (eqb (at n 0) 5) (Denon (denonMemory n)) (necOrGuarded n))))
 
 abbrev pub spansFrom : List ℕ → Spans
 spansFrom n = columns (eight (λ place. at n (8 + place))) (eight (λ place. at n (16 + place))) (eight (λ place. at n (24 + place)))

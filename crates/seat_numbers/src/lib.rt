@@ -2,6 +2,7 @@
 // protocol. A decoder that is read back from its numbers is the same (proofs/RoundTrip.antt).
 use denon::decoder::DenonMemory;
 use denon::decoder::DenonState;
+use guarded::decoder::GuardedMemory;
 use nec::decoder::NecMemory;
 use nec::decoder::NecState;
 use protocols::decoder::Decoder;
@@ -15,13 +16,12 @@ use sbp::decoder::SbpMemory;
 use sbp::decoder::SbpState;
 use spans::Spans;
 ghost use mathlib.Core.Path.{_≡_};
-ghost use mathlib.Core.List.{_++_};
 ghost use Prim.Native.Nat.{_≤_, _+_, _%_};
 ghost use lib.ListN.{length};
 ghost use Rattle.protocols.specs.Decoder.{decoderOf};
 ghost use Rattle.spans.specs.Spans.{eight};
-ghost use Rattle.seat_numbers.specs.Receiver.{lowHalf, highHalf, eightOf, necNumbers, rc5Numbers, rc6Numbers, sbpNumbers, denonNumbers, memoryNumbers, spansNumbers, numbersOf, firstStored};
-ghost use Rattle.seat_numbers.specs.Receiver.{faultFrom, wide, necFrom, rc5From, rc6From, sbpFrom, denonFrom, necMemory, rc5Memory, rc6Memory, sbpMemory, denonMemory, memoryFrom, at, spansFrom, decoderFrom};
+ghost use Rattle.seat_numbers.specs.Receiver.{lowHalf, highHalf, necNumbers, rc5Numbers, rc6Numbers, sbpNumbers, denonNumbers, guardedNumbers, memoryNumbers, freshNumbers, numbersOf, firstStored};
+ghost use Rattle.seat_numbers.specs.Receiver.{faultFrom, wide, necFrom, rc5From, rc6From, sbpFrom, denonFrom, necMemory, rc5Memory, rc6Memory, sbpMemory, denonMemory, necOrGuarded, memoryFrom, at, spansFrom, decoderFrom};
 
 // ---- the numbers of a decoder
 
@@ -131,6 +131,16 @@ fn denon_numbers(m: DenonMemory) -> [u32; 8]
     }
 }
 
+// NEC's own, and two more.
+fn guarded_numbers(m: GuardedMemory) -> [u32; 8]
+    ensures { λ r. ⌜ r ≡ guardedNumbers m ⌝ }
+{
+    let mut numbers = nec_numbers(m.nec);
+    numbers[5] = 1;
+    numbers[6] = m.mark as u32;
+    numbers
+}
+
 fn memory_numbers(memory: Memory) -> [u32; 8]
     ensures { λ r. ⌜ r ≡ memoryNumbers memory ⌝ }
 {
@@ -140,6 +150,7 @@ fn memory_numbers(memory: Memory) -> [u32; 8]
         Memory::Rc6(m) => rc6_numbers(m),
         Memory::Sbp(m) => sbp_numbers(m),
         Memory::Denon(m) => denon_numbers(m),
+        Memory::Guarded(m) => guarded_numbers(m),
     }
 }
 
@@ -171,15 +182,15 @@ pub fn put_memory(receiver: &mut [u32; 32], memory: Memory)
     put_first(receiver, first);
 }
 
-// A fresh decoder remembers nothing: after the protocol's number comes 0, whatever the protocol.
-pub fn put_fresh(receiver: &mut [u32; 32], protocol: u32, spans: Spans)
-    ensures { λ _. ⌜ now (receiver .exit) ≡ eightOf protocol (0, 0) 0 0 0 0 0 ++ spansNumbers spans ⌝ }
+// A fresh decoder remembers nothing: after the protocol's number comes 0, whatever the protocol, except at place 5 for NEC in guarded mode.
+pub fn put_fresh(receiver: &mut [u32; 32], protocol: u32, guarded: u32, spans: Spans)
+    ensures { λ _. ⌜ now (receiver .exit) ≡ freshNumbers protocol guarded spans ⌝ }
 {
     are_32(*receiver);
     let base = spans.base;
     let low = spans.low;
     let high = spans.high;
-    let first = [protocol, 0, 0, 0, 0, 0, 0, 0];
+    let first = [protocol, 0, 0, 0, 0, guarded, 0, 0];
     put_first(receiver, first);
     receiver[8] = base[0];
     receiver[9] = base[1];
@@ -357,6 +368,19 @@ fn denon_memory(receiver: &[u32; 32]) -> DenonMemory
     }
 }
 
+// NEC, and in guarded mode its mark.
+fn nec_or_guarded(receiver: &[u32; 32]) -> Memory
+    ensures { λ r. ⌜ r ≡ necOrGuarded (now (receiver .entry)) ⌝ }
+{
+    let nec = nec_memory(receiver);
+    if receiver[5] == 1 {
+        let mark = receiver[6] == 1;
+        Memory::Guarded(GuardedMemory { nec, mark })
+    } else {
+        Memory::Nec(nec)
+    }
+}
+
 fn memory_from(receiver: &[u32; 32]) -> Memory
     ensures { λ r. ⌜ r ≡ memoryFrom (now (receiver .entry)) ⌝ }
 {
@@ -365,7 +389,7 @@ fn memory_from(receiver: &[u32; 32]) -> Memory
         3 => Memory::Rc6(rc6_memory(receiver)),
         4 => Memory::Sbp(sbp_memory(receiver)),
         5 => Memory::Denon(denon_memory(receiver)),
-        _ => Memory::Nec(nec_memory(receiver)),
+        _ => nec_or_guarded(receiver),
     }
 }
 

@@ -6,6 +6,7 @@ use Rattle.typed_batches.proofs.rc5_batch.batch_in as rc5-batch-in
 use Rattle.typed_batches.proofs.rc6_batch.batch_in as rc6-batch-in
 use Rattle.typed_batches.proofs.sbp_batch.batch_in as sbp-batch-in
 use Rattle.typed_batches.proofs.denon_batch.batch_in as denon-batch-in
+use Rattle.typed_batches.proofs.guarded_batch.batch_in as guarded-batch-in
 
 nec-batch-in-fixed : Fixed nec-batch-in.ended (λ M. nec-batch-in.clauses) nec-batch-in.Symbol.routine
 nec-batch-in-fixed M 𝓤 H 𝓜 𝓖 𝓡 =
@@ -26,3 +27,7 @@ sbp-batch-in-fixed M 𝓤 H 𝓜 𝓖 𝓡 =
 denon-batch-in-fixed : Fixed denon-batch-in.ended (λ M. denon-batch-in.clauses) denon-batch-in.Symbol.routine
 denon-batch-in-fixed M 𝓤 H 𝓜 𝓖 𝓡 =
     (denon-batch-in.Met.met 𝓤 H 𝓜 𝓖 𝓡, λ κs a. asks-nothing 𝓤, λ κs a g h r s v w. both one one (λ p q. (meet (p .0) (q .0), refl ⨾ refl ⨾ refl ⨾ refl ⨾ refl ⨾ refl ⨾ meet (p .1) (q .1) ⨾ meet (p .2) (q .2) ⨾ meet (p .3) (q .3) ⨾ refl)))
+
+guarded-batch-in-fixed : Fixed guarded-batch-in.ended (λ M. guarded-batch-in.clauses) guarded-batch-in.Symbol.routine
+guarded-batch-in-fixed M 𝓤 H 𝓜 𝓖 𝓡 =
+    (guarded-batch-in.Met.met 𝓤 H 𝓜 𝓖 𝓡, λ κs a. asks-nothing 𝓤, λ κs a g h r s v w. both one one (λ p q. (meet (p .0) (q .0), refl ⨾ refl ⨾ refl ⨾ refl ⨾ refl ⨾ refl ⨾ meet (p .1) (q .1) ⨾ meet (p .2) (q .2) ⨾ meet (p .3) (q .3) ⨾ refl)))

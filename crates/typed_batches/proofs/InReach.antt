@@ -33,7 +33,8 @@ use Rattle.sbp.specs.declared.decoder.SbpState.the-variants as sbp-state
 use Rattle.denon.specs.Decoder as denon
 use Rattle.denon.specs.declared.decoder.DenonState.{DenonState}
 use Rattle.denon.specs.declared.decoder.DenonState.the-variants as denon-state
-use Rattle.typed_batches.proofs.From.{picked}
+use Rattle.guarded.specs.Decoder as guarded
+use Rattle.handfuls.proofs.From.{picked}
 
 abbrev pub InReach : (M : Machine) → M .Memory → Type 0
 InReach M m = M .refusal m ≡ 0
@@ -196,3 +197,15 @@ denon-in-reach = stays denon.machine denon-step (λ m. refl)
 pub denon-no-refusal : NoRefusal denon.machine
 denon-no-refusal m = elim (m .state) as (λ (state : DenonState). isRefused (reportOf (denon.statusOf state) (denon.commandAt state (m .bits))) ≡ false)
     [ denon-state.Idle ↦ refl | denon-state.Data n ↦ refl | denon-state.Done ↦ refl ]
+
+-- the guard turns a state only into an error, which has no counter
+pub guarded-step : StepsInReach guarded.machine
+unfolding guarded.stepIn
+guarded-step spans m edge h =
+    either (λ state. Within (nec.pastEnd state)) (guarded.isUnmarked (m .nec .state) (nec.machine .step spans (m .nec) edge .state) (m .mark)) refl (nec-step spans (m .nec) edge h)
+
+pub guarded-in-reach : StaysInReach guarded.machine
+guarded-in-reach = stays guarded.machine guarded-step (λ m. refl)
+
+pub guarded-no-refusal : NoRefusal guarded.machine
+guarded-no-refusal m = nec-no-refusal (m .nec)

@@ -1,12 +1,12 @@
 // Document 02, request 01: edges by the handful, Denon.
-use crate::Reason;
 use denon::decoder::DenonMemory;
 use denon::decoder::past_end;
 use denon::decoder::total_in;
+use handfuls::Reason;
 ghost use mathlib.Core.Path.{_≡_};
 ghost use Rattle.spans.specs.Spans.{columns};
 ghost use Rattle.denon.specs.Decoder.{machine};
-ghost use Rattle.typed_batches.specs.Columns.{edgesLeft, kindsLeft, valuesLeft, batchInto};
+ghost use Rattle.handfuls.specs.Columns.{edgesLeft, kindsLeft, valuesLeft, batchInto};
 ghost use Rattle.typed_batches.specs.Batched.{denonBatched};
 
 pub struct DenonBatched {

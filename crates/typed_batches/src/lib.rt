@@ -1,7 +1,8 @@
 // Document 02, request 01: edges by the handful, for a unit whose protocol is known when it is built: a loop for each protocol, a module each.
 // A list of levels and a list of durations go in. Answers go to three lent columns: the edge's number, the kind, the value. Back come why it stopped, the number
-// of edges used, the number of answers, and the memory after the edges used. Here is what the five loops share.
+// of edges used, the number of answers, and the memory after the edges used. Here is what the loops share.
 pub mod denon_batch;
+pub mod guarded_batch;
 pub mod nec_batch;
 pub mod rc5_batch;
 pub mod rc6_batch;
@@ -15,15 +16,8 @@ ghost use mathlib.Core.List.{[], _∷_};
 ghost use Prim.Native.Nat.{_+_, _<_};
 ghost use lib.ListN.{length, set};
 ghost use Rattle.commands.specs.Command.{valuesOf};
-ghost use Rattle.typed_batches.specs.Batch.{isNothing};
-ghost use Rattle.typed_batches.specs.Columns.{shorterOf, roomOf, packedOf, kindOf, valueOf, isFull, countAfter, putIn};
-
-// Why a batch stopped: all edges are used, the next answer has no place, or the call is refused.
-pub enum Reason {
-    AllUsed,
-    NoRoom,
-    Refused(u32),
-}
+ghost use Rattle.handfuls.specs.Batch.{isNothing};
+ghost use Rattle.handfuls.specs.Columns.{shorterOf, roomOf, packedOf, kindOf, valueOf, isFull, countAfter, putIn};
 
 fn shorter(one: usize, two: usize) -> usize
     ensures { λ r. ⌜ r ≡ shorterOf one two ⌝ }

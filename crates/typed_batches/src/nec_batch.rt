@@ -1,12 +1,12 @@
 // Document 02, request 01: edges by the handful, NEC.
-use crate::Reason;
+use handfuls::Reason;
 use nec::decoder::NecMemory;
 use nec::decoder::past_end;
 use nec::decoder::total_in;
 ghost use mathlib.Core.Path.{_≡_};
 ghost use Rattle.spans.specs.Spans.{columns};
 ghost use Rattle.nec.specs.Decoder.{machine};
-ghost use Rattle.typed_batches.specs.Columns.{edgesLeft, kindsLeft, valuesLeft, batchInto};
+ghost use Rattle.handfuls.specs.Columns.{edgesLeft, kindsLeft, valuesLeft, batchInto};
 ghost use Rattle.typed_batches.specs.Batched.{necBatched};
 
 pub struct NecBatched {

@@ -1,12 +1,12 @@
 // Document 02, request 01: edges by the handful, RC5.
-use crate::Reason;
+use handfuls::Reason;
 use rc5::decoder::Rc5Memory;
 use rc5::decoder::past_end;
 use rc5::decoder::total_in;
 ghost use mathlib.Core.Path.{_≡_};
 ghost use Rattle.spans.specs.Spans.{columns};
 ghost use Rattle.rc5.specs.Decoder.{machine};
-ghost use Rattle.typed_batches.specs.Columns.{edgesLeft, kindsLeft, valuesLeft, batchInto};
+ghost use Rattle.handfuls.specs.Columns.{edgesLeft, kindsLeft, valuesLeft, batchInto};
 ghost use Rattle.typed_batches.specs.Batched.{rc5Batched};
 
 pub struct Rc5Batched {

@@ -1,12 +1,12 @@
 // Document 02, request 01: edges by the handful, RC6.
-use crate::Reason;
+use handfuls::Reason;
 use rc6::decoder::Rc6Memory;
 use rc6::decoder::past_end;
 use rc6::decoder::total_in;
 ghost use mathlib.Core.Path.{_≡_};
 ghost use Rattle.spans.specs.Spans.{columns};
 ghost use Rattle.rc6.specs.Decoder.{machine};
-ghost use Rattle.typed_batches.specs.Columns.{edgesLeft, kindsLeft, valuesLeft, batchInto};
+ghost use Rattle.handfuls.specs.Columns.{edgesLeft, kindsLeft, valuesLeft, batchInto};
 ghost use Rattle.typed_batches.specs.Batched.{rc6Batched};
 
 pub struct Rc6Batched {

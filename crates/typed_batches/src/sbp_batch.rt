@@ -1,12 +1,12 @@
 // Document 02, request 01: edges by the handful, SBP.
-use crate::Reason;
+use handfuls::Reason;
 use sbp::decoder::SbpMemory;
 use sbp::decoder::past_end;
 use sbp::decoder::total_in;
 ghost use mathlib.Core.Path.{_≡_};
 ghost use Rattle.spans.specs.Spans.{columns};
 ghost use Rattle.sbp.specs.Decoder.{machine};
-ghost use Rattle.typed_batches.specs.Columns.{edgesLeft, kindsLeft, valuesLeft, batchInto};
+ghost use Rattle.handfuls.specs.Columns.{edgesLeft, kindsLeft, valuesLeft, batchInto};
 ghost use Rattle.typed_batches.specs.Batched.{sbpBatched};
 
 pub struct SbpBatched {

@@ -8,7 +8,7 @@ use Rattle.reports.specs.declared.Report.the-variants as report
 use Rattle.reports.proofs.Machine.{total-own}
 use Rattle.protocols.specs.Decoder.{machine, decoderOf}
 use Rattle.protocols.specs.declared.decoder.Memory.{Memory}
-use Rattle.protocols.specs.declared.decoder.Memory.the-variants.{Nec, Rc5, Rc6, Sbp, Denon}
+use Rattle.protocols.specs.declared.decoder.Memory.the-variants.{Nec, Rc5, Rc6, Sbp, Denon, Guarded}
 use Rattle.nec.specs.Decoder as nec
 use Rattle.nec.specs.declared.decoder.NecMemory.{NecMemory}
 use Rattle.rc5.specs.Decoder as rc5
@@ -19,7 +19,9 @@ use Rattle.sbp.specs.Decoder as sbp
 use Rattle.sbp.specs.declared.decoder.SbpMemory.{SbpMemory}
 use Rattle.denon.specs.Decoder as denon
 use Rattle.denon.specs.declared.decoder.DenonMemory.{DenonMemory}
-use Rattle.protocols.proofs.Laws.{nec-own, rc5-own, rc6-own, sbp-own, denon-own}
+use Rattle.guarded.specs.Decoder as guarded
+use Rattle.guarded.specs.declared.decoder.GuardedMemory.{GuardedMemory}
+use Rattle.protocols.proofs.Laws.{nec-own, rc5-own, rc6-own, sbp-own, denon-own, guarded-own}
 use Rattle.polled.specs.Polled.{ticked, runLength, withoutEdge, pollUnchanged, pollOf}
 use Rattle.polled.specs.declared.Polled.{Polled}
 use Rattle.polled.specs.declared.PolledTotal.{PolledTotal}
@@ -69,3 +71,6 @@ sbp-by-number = by-number sbp-own
 
 pub denon-by-number : (k : Kept DenonMemory) (level : Bool) → pollOf (numbered Denon k) level ≡ answered Denon (pollStep denon.machine k level)
 denon-by-number = by-number denon-own
+
+pub guarded-by-number : (k : Kept GuardedMemory) (level : Bool) → pollOf (numbered Guarded k) level ≡ answered Guarded (pollStep guarded.machine k level)
+guarded-by-number = by-number guarded-own

@@ -10,6 +10,8 @@ use Rattle.typed_polls.proofs.sbp_polls.SbpPolled.new as sbp-new
 use Rattle.typed_polls.proofs.sbp_polls.poll as sbp-poll
 use Rattle.typed_polls.proofs.denon_polls.DenonPolled.new as denon-new
 use Rattle.typed_polls.proofs.denon_polls.poll as denon-poll
+use Rattle.typed_polls.proofs.guarded_polls.GuardedPolled.new as guarded-new
+use Rattle.typed_polls.proofs.guarded_polls.poll as guarded-poll
 
 nec-new-fixed : Fixed nec-new.ended (λ M. nec-new.clauses) nec-new.Symbol.routine
 nec-new-fixed M 𝓤 H 𝓜 𝓖 𝓡 = (nec-new.Met.met 𝓤 H 𝓜 𝓖 𝓡, λ κs a. asks-nothing 𝓤, λ κs a g h r s v w. both one one alike)
@@ -40,3 +42,9 @@ denon-new-fixed M 𝓤 H 𝓜 𝓖 𝓡 = (denon-new.Met.met 𝓤 H 𝓜 𝓖 �
 
 denon-poll-fixed : Fixed denon-poll.ended (λ M. denon-poll.clauses) denon-poll.Symbol.routine
 denon-poll-fixed M 𝓤 H 𝓜 𝓖 𝓡 = (denon-poll.Met.met 𝓤 H 𝓜 𝓖 𝓡, λ κs a. asks-nothing 𝓤, λ κs a g h r s v w. both one one alike-left)
+
+guarded-new-fixed : Fixed guarded-new.ended (λ M. guarded-new.clauses) guarded-new.Symbol.routine
+guarded-new-fixed M 𝓤 H 𝓜 𝓖 𝓡 = (guarded-new.Met.met 𝓤 H 𝓜 𝓖 𝓡, λ κs a. asks-nothing 𝓤, λ κs a g h r s v w. both one one alike)
+
+guarded-poll-fixed : Fixed guarded-poll.ended (λ M. guarded-poll.clauses) guarded-poll.Symbol.routine
+guarded-poll-fixed M 𝓤 H 𝓜 𝓖 𝓡 = (guarded-poll.Met.met 𝓤 H 𝓜 𝓖 𝓡, λ κs a. asks-nothing 𝓤, λ κs a g h r s v w. both one one alike-left)

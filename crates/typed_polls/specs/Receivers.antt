@@ -28,6 +28,11 @@ use Rattle.denon.specs.declared.decoder.DenonMemory.{DenonMemory}
 use Rattle.typed_polls.specs.declared.denon_polls.DenonPolled.{DenonPolled}
 use Rattle.typed_polls.specs.declared.denon_polls.DenonPolledMade.{DenonPolledMade}
 use Rattle.typed_polls.specs.declared.denon_polls.DenonPolledTotal.{DenonPolledTotal}
+use Rattle.guarded.specs.Decoder as guarded
+use Rattle.guarded.specs.declared.decoder.GuardedMemory.{GuardedMemory}
+use Rattle.typed_polls.specs.declared.guarded_polls.GuardedPolled.{GuardedPolled}
+use Rattle.typed_polls.specs.declared.guarded_polls.GuardedPolledMade.{GuardedPolledMade}
+use Rattle.typed_polls.specs.declared.guarded_polls.GuardedPolledTotal.{GuardedPolledTotal}
 
 -- ---- NEC
 
@@ -98,3 +103,17 @@ denonAnswer a = record { report = a .report; receiver = record { decoder = denon
 
 abbrev pub denonPoll : DenonPolled → Bool → DenonPolledTotal
 denonPoll p level = denonAnswer (pollStep denon.machine (denonKept p) level)
+
+-- ---- NEC in guarded mode: document 02, request 05
+
+abbrev pub guardedMade : ℕ → GuardedPolledMade
+guardedMade rate = let made = guarded.madeOf (spansOf 1 rate) in record { answer = made .answer; receiver = record { decoder = made .decoder; time = begun } }
+
+abbrev pub guardedKept : GuardedPolled → Kept GuardedMemory
+guardedKept p = record { spans = p .decoder .spans; memory = p .decoder .memory; time = p .time }
+
+abbrev pub guardedAnswer : PollAnswer GuardedMemory → GuardedPolledTotal
+guardedAnswer a = record { report = a .report; receiver = record { decoder = guarded.decoderOf (a .kept .spans) (a .kept .memory); time = a .kept .time } }
+
+abbrev pub guardedPoll : GuardedPolled → Bool → GuardedPolledTotal
+guardedPoll p level = guardedAnswer (pollStep guarded.machine (guardedKept p) level)

@@ -1,6 +1,7 @@
 // Document 01, "The polled receiver", for a unit whose protocol is known when it is built: a record for each protocol, a module each.
 // Here is what a poll does whatever the protocol is.
 pub mod denon_polls;
+pub mod guarded_polls;
 pub mod nec_polls;
 pub mod rc5_polls;
 pub mod rc6_polls;

@@ -39,6 +39,13 @@ returns-5 c =
     let args = held .before .before .before .before .before .before .before .before .args in
     picked-by (args .decoder .spans) (args .levels .now) (args .durations .now) (args .edges .now) (args .kinds .now) (args .values .now) (held .memory5 .given .1) (called .denon .ensures)
 
+returns-6 : tie.Need-returns-6
+returns-6 c =
+    let called = c .before .before .before .before .before .before in
+    let held = called .before .before .before .before .before in
+    let args = held .before .before .before .before .before .before .before .before .args in
+    picked-by (args .decoder .spans) (args .levels .now) (args .durations .now) (args .edges .now) (args .kinds .now) (args .values .now) (held .memory6 .given .1) (called .guarded .ensures)
+
 pub batch-spec : {M : Type 1} → statement M
 batch-spec =
     tie.close
@@ -48,8 +55,10 @@ batch-spec =
     (λ c. search needs) (λ c κs. tt)
     (λ c. search needs) (λ c κs. tt)
     (λ c. search needs) (λ c κs. tt)
+    (λ c. search needs) (λ c κs. tt)
     (λ c. search needs) (λ c. search needs) (λ c. search needs) returns
     (λ c. search needs) (λ c. search needs) (λ c. search needs) returns-2
     (λ c. search needs) (λ c. search needs) (λ c. search needs) returns-3
     (λ c. search needs) (λ c. search needs) (λ c. search needs) returns-4
-    (λ c. search needs) (λ c. search needs) (λ c. search needs) returns-5)
+    (λ c. search needs) (λ c. search needs) (λ c. search needs) returns-5
+    (λ c. search needs) (λ c. search needs) (λ c. search needs) returns-6)

@@ -18,4 +18,4 @@ memory-from-spec =
     (λ c. simp (c .before .match .keys2, c .rc6-memory .ensures))
     (λ c. simp (c .before .match .keys3, c .sbp-memory .ensures))
     (λ c. simp (c .before .match .keys4, c .denon-memory .ensures))
-    (λ c. let r = c .before .match .rest in simp (c .nec-memory .ensures, ne-eqb _ 2 (r .0 .0 .0 .1), ne-eqb _ 3 (r .0 .0 .1), ne-eqb _ 4 (r .0 .1), ne-eqb _ 5 (r .1))))
+    (λ c. let r = c .before .match .rest in simp (c .nec-or-guarded .ensures, ne-eqb _ 2 (r .0 .0 .0 .1), ne-eqb _ 3 (r .0 .0 .1), ne-eqb _ 4 (r .0 .1), ne-eqb _ 5 (r .1))))

@@ -14,7 +14,7 @@ returns c =
     let start = known .before .before .args in
     let spans = start .spans in
     ap (λ (ns : List ℕ). eightStored 24 (spans .high) (eightStored 16 (spans .low) (eightStored 8 (spans .base) ns))) (c .put-first .ensures)
-    ∙ all-are (start .receiver .now) (known .are-32 .ensures) (at (start .protocol ∷ 0 ∷ 0 ∷ 0 ∷ 0 ∷ 0 ∷ 0 ∷ 0 ∷ [])) (spans .base) (spans .low) (spans .high)
+    ∙ all-are (start .receiver .now) (known .are-32 .ensures) (at (start .protocol ∷ 0 ∷ 0 ∷ 0 ∷ 0 ∷ start .guarded ∷ 0 ∷ 0 ∷ [])) (spans .base) (spans .low) (spans .high)
     (search needs) (search needs) (search needs)
 
 pub put-fresh-spec : {M : Type 1} → statement M

@@ -2,7 +2,7 @@
 use mathlib.Core.Path.{sym, _∙_}
 use lib.ListN.{length}
 use borrow.Author.Needs.{needs}
-use Rattle.typed_batches.proofs.Turns.{room-for, stored, kept}
+use Rattle.handfuls.proofs.Turns.{room-for, stored, kept}
 use Rattle.typed_batches.proofs.put.Statement.{statement}
 use Rattle.typed_batches.proofs.put.Tie as tie
 

@@ -8,6 +8,7 @@ counting-in-spec =
     tie.close
     (tie.spec
     (λ c. search needs)
+    (λ c κs. tt)
     (λ c. search needs)
     (λ c. search needs)
     (λ c. search needs)
@@ -17,8 +18,11 @@ counting-in-spec =
     (λ c κs. tt)
     (λ c. search needs)
     (λ c. search needs)
-    (λ c. simp (c .before .memory .given .1))
+    (λ c. search needs)
+    (λ c κs. tt)
+    (λ c. simp (c .before .before .memory .given .1, c .nec-at .ensures))
     (λ c. simp (c .before .memory2 .given .1))
     (λ c. simp (c .before .before .memory3 .given .1, c .rc6-state .ensures))
     (λ c. simp (c .before .before .memory4 .given .1, c .sbp-state .ensures))
-    (λ c. simp (c .before .memory5 .given .1)))
+    (λ c. simp (c .before .memory5 .given .1))
+    (λ c. simp (c .before .before .memory6 .given .1, c .nec-at2 .ensures)))

@@ -11,7 +11,7 @@ use Rattle.denon.specs.Decoder.{pastEnd, machine, totalIn}
 use Rattle.denon.specs.declared.decoder.DenonMemory.{DenonMemory}
 use Rattle.denon.specs.declared.decoder.DenonTotalIn.{DenonTotalIn}
 use Rattle.typed_batches.specs.declared.denon_batch.DenonBatched.{DenonBatched}
-use Rattle.typed_batches.proofs.Turns.{End, endsFrom, all-used, no-room, goes, starts, refused-ends, in-reach, below, still, lengths}
+use Rattle.handfuls.proofs.Turns.{End, endsFrom, all-used, no-room, goes, starts, refused-ends, in-reach, below, still, lengths}
 use Rattle.typed_batches.proofs.denon_batch.batch_in.Statement.{statement}
 use Rattle.typed_batches.proofs.denon_batch.batch_in.Tie as tie
 

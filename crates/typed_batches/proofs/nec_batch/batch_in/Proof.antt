@@ -11,7 +11,7 @@ use Rattle.nec.specs.Decoder.{pastEnd, machine, totalIn}
 use Rattle.nec.specs.declared.decoder.NecMemory.{NecMemory}
 use Rattle.nec.specs.declared.decoder.NecTotalIn.{NecTotalIn}
 use Rattle.typed_batches.specs.declared.nec_batch.NecBatched.{NecBatched}
-use Rattle.typed_batches.proofs.Turns.{End, endsFrom, all-used, no-room, goes, starts, refused-ends, in-reach, below, still, lengths}
+use Rattle.handfuls.proofs.Turns.{End, endsFrom, all-used, no-room, goes, starts, refused-ends, in-reach, below, still, lengths}
 use Rattle.typed_batches.proofs.nec_batch.batch_in.Statement.{statement}
 use Rattle.typed_batches.proofs.nec_batch.batch_in.Tie as tie
 

@@ -11,7 +11,7 @@ use Rattle.rc5.specs.Decoder.{pastEnd, machine, totalIn}
 use Rattle.rc5.specs.declared.decoder.Rc5Memory.{Rc5Memory}
 use Rattle.rc5.specs.declared.decoder.Rc5TotalIn.{Rc5TotalIn}
 use Rattle.typed_batches.specs.declared.rc5_batch.Rc5Batched.{Rc5Batched}
-use Rattle.typed_batches.proofs.Turns.{End, endsFrom, all-used, no-room, goes, starts, refused-ends, in-reach, below, still, lengths}
+use Rattle.handfuls.proofs.Turns.{End, endsFrom, all-used, no-room, goes, starts, refused-ends, in-reach, below, still, lengths}
 use Rattle.typed_batches.proofs.rc5_batch.batch_in.Statement.{statement}
 use Rattle.typed_batches.proofs.rc5_batch.batch_in.Tie as tie
 

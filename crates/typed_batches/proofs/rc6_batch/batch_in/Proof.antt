@@ -13,8 +13,8 @@ use Rattle.rc6.specs.Decoder.{pastEnd, machine, totalIn}
 use Rattle.rc6.specs.declared.decoder.Rc6Memory.{Rc6Memory}
 use Rattle.rc6.specs.declared.decoder.Rc6TotalIn.{Rc6TotalIn}
 use Rattle.typed_batches.specs.declared.rc6_batch.Rc6Batched.{Rc6Batched}
-use Rattle.typed_batches.specs.Columns.{batchInto}
-use Rattle.typed_batches.proofs.Turns.{End, ended, endsFrom, all-used, no-room, goes, starts, refused-ends, in-reach, below, still, lengths}
+use Rattle.handfuls.specs.Columns.{batchInto}
+use Rattle.handfuls.proofs.Turns.{End, ended, endsFrom, all-used, no-room, goes, starts, refused-ends, in-reach, below, still, lengths}
 use Rattle.typed_batches.proofs.rc6_batch.batch_in.Statement.{statement}
 use Rattle.typed_batches.proofs.rc6_batch.batch_in.Tie as tie
 

@@ -11,7 +11,7 @@ use Rattle.sbp.specs.Decoder.{pastEnd, machine, totalIn}
 use Rattle.sbp.specs.declared.decoder.SbpMemory.{SbpMemory}
 use Rattle.sbp.specs.declared.decoder.SbpTotalIn.{SbpTotalIn}
 use Rattle.typed_batches.specs.declared.sbp_batch.SbpBatched.{SbpBatched}
-use Rattle.typed_batches.proofs.Turns.{End, endsFrom, all-used, no-room, goes, starts, refused-ends, in-reach, below, still, lengths}
+use Rattle.handfuls.proofs.Turns.{End, endsFrom, all-used, no-room, goes, starts, refused-ends, in-reach, below, still, lengths}
 use Rattle.typed_batches.proofs.sbp_batch.batch_in.Statement.{statement}
 use Rattle.typed_batches.proofs.sbp_batch.batch_in.Tie as tie
 

@@ -6,7 +6,7 @@ use Prim.Native.Nat.{ℕ, zero, suc, _<_}
 use native.Mathlib.Omega.{arith}
 use lib.ListN.{length, getD, drop}
 use Rattle.reports.specs.Edges.{edge}
-use Rattle.typed_batches.specs.Batch.{edgesIn}
+use Rattle.handfuls.specs.Batch.{edgesIn}
 
 pub edges-counted : (levels : List Bool) (durations : List ℕ) → length levels ≡ length durations → length (edgesIn levels durations) ≡ length durations
 unfolding edgesIn

@@ -20,10 +20,10 @@ use Rattle.reports.specs.Edges.{Edge}
 use Rattle.reports.specs.Machine.{Machine, total, runReports, runAfter}
 use Rattle.reports.specs.declared.Report.{Report}
 use Rattle.reports.proofs.Machine.{reports-joined, after-joined, reports-counted}
-use Rattle.typed_batches.specs.declared.Reason.the-variants.{AllUsed}
-use Rattle.typed_batches.specs.Batch.{isNothing, Numbered, numbered, answersOf, Handful, handful, countedOn}
-use Rattle.typed_batches.specs.Columns.{onto}
-use Rattle.typed_batches.proofs.From.{unanswered, number-after}
+use Rattle.handfuls.specs.declared.Reason.the-variants.{AllUsed}
+use Rattle.handfuls.specs.Batch.{isNothing, Numbered, numbered, answersOf, Handful, handful, countedOn}
+use Rattle.handfuls.specs.Columns.{onto}
+use Rattle.handfuls.proofs.From.{unanswered, number-after}
 
 -- ---- answers of two lists of reports
 

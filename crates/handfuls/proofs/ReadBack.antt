@@ -3,7 +3,7 @@ use mathlib.Core.Path.{_≡_}
 use mathlib.Core.List.{List, _∷_}
 use Prim.Native.Nat.{ℕ, _/_, _%_, _<_}
 use native.Mathlib.Omega.{arith}
-use Rattle.typed_batches.specs.Columns.{packedOf}
+use Rattle.handfuls.specs.Columns.{packedOf}
 
 pub unpacks : (value : ℕ) (values : List ℕ) → value < 65536 → (packedOf (value ∷ values) % 65536 ≡ value) × (packedOf (value ∷ values) / 65536 ≡ packedOf values)
 unpacks value values less = (omega (arith, less), omega (arith, less))

@@ -14,9 +14,9 @@ use Rattle.reports.specs.Edges.{Edge}
 use Rattle.reports.specs.Machine.{Machine, total, runReports, runAfter}
 use Rattle.reports.specs.declared.Report.{Report}
 use Rattle.reports.specs.declared.Report.the-variants.{Nothing}
-use Rattle.typed_batches.specs.declared.Reason.{Reason}
-use Rattle.typed_batches.specs.declared.Reason.the-variants.{AllUsed, NoRoom}
-use Rattle.typed_batches.specs.Batch.{isNothing, Numbered, numbered, answersOf, Handful, usedBy, reasonBy, handful}
+use Rattle.handfuls.specs.declared.Reason.{Reason}
+use Rattle.handfuls.specs.declared.Reason.the-variants.{AllUsed, NoRoom}
+use Rattle.handfuls.specs.Batch.{isNothing, Numbered, numbered, answersOf, Handful, usedBy, reasonBy, handful}
 
 abbrev pub unanswered : Numbered
 unanswered = numbered 0 Nothing

@@ -11,8 +11,8 @@ use Rattle.reports.specs.Edges.{Edge, edge}
 use Rattle.reports.specs.Machine.{Machine, runReports, runAfter}
 use Rattle.reports.specs.declared.Report.{Report}
 use Rattle.reports.specs.declared.Report.the-variants as report
-use Rattle.typed_batches.specs.declared.Reason.{Reason}
-use Rattle.typed_batches.specs.declared.Reason.the-variants.{AllUsed, NoRoom, Refused}
+use Rattle.handfuls.specs.declared.Reason.{Reason}
+use Rattle.handfuls.specs.declared.Reason.the-variants.{AllUsed, NoRoom, Refused}
 
 -- "A list of levels and a list of durations go in"
 unfoldable pub edgesIn : List Bool → List ℕ → List Edge

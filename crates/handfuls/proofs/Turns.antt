@@ -18,12 +18,12 @@ use Rattle.spans.specs.declared.Spans.{Spans}
 use Rattle.reports.specs.Edges.{Edge, edge}
 use Rattle.reports.specs.Machine.{Machine, TotalAnswer, total, runReports}
 use Rattle.reports.specs.declared.Report.{Report}
-use Rattle.typed_batches.specs.declared.Reason.{Reason}
-use Rattle.typed_batches.specs.declared.Reason.the-variants.{AllUsed, NoRoom, Refused}
-use Rattle.typed_batches.specs.Batch.{edgesIn, isNothing, Numbered, answersOf, Handful, refused, handful, batch}
-use Rattle.typed_batches.specs.Columns.{roomOf, kindOf, valueOf, onto, edgesLeft, kindsLeft, valuesLeft, batchInto, isFull, countAfter, putIn}
-use Rattle.typed_batches.proofs.Edges.{edges-counted, edge-at}
-use Rattle.typed_batches.proofs.From.{picked, from, from-start, from-nil, quiet-edge, full-edge, loud-edge}
+use Rattle.handfuls.specs.declared.Reason.{Reason}
+use Rattle.handfuls.specs.declared.Reason.the-variants.{AllUsed, NoRoom, Refused}
+use Rattle.handfuls.specs.Batch.{edgesIn, isNothing, Numbered, answersOf, Handful, refused, handful, batch}
+use Rattle.handfuls.specs.Columns.{roomOf, kindOf, valueOf, onto, edgesLeft, kindsLeft, valuesLeft, batchInto, isFull, countAfter, putIn}
+use Rattle.handfuls.proofs.Edges.{edges-counted, edge-at}
+use Rattle.handfuls.proofs.From.{picked, from, from-start, from-nil, quiet-edge, full-edge, loud-edge}
 
 -- what a batch comes to, and what it leaves in the columns
 pub record End (Memory : Type 0) : Type 0 where

@@ -11,7 +11,7 @@ use Rattle.reports.specs.Machine.{Machine}
 use Rattle.reports.specs.Reports.{faultNumber, reportNumbers}
 use Rattle.reports.specs.declared.Report.{Report}
 use Rattle.reports.specs.declared.Report.the-variants as report
-use Rattle.typed_batches.specs.Batch.{isNothing, Numbered, Handful, batch}
+use Rattle.handfuls.specs.Batch.{isNothing, Numbered, Handful, batch}
 
 -- the room for answers: the shortest column tells
 abbrev pub shorterOf : ℕ → ℕ → ℕ

@@ -1,0 +1,52 @@
+-- `guarded::decoder::guard` meets its contract: each arm is a clause of the definition. Assumes nothing.
+use borrow.Author.Needs.{needs}
+use Rattle.guarded.proofs.decoder.guard.Statement.{statement}
+use Rattle.guarded.proofs.decoder.guard.Tie as tie
+
+pub guard-spec : {M : Type 1} → statement M
+guard-spec =
+    tie.close
+    (tie.spec
+    (λ c. search needs)
+    (λ c. search needs)
+    (λ c κs. tt)
+    (λ c. search needs)
+    (λ c κs. tt)
+    (λ c. search needs)
+    (λ c κs. tt)
+    (λ c. search needs)
+    (λ c κs. tt)
+    (λ c κs. tt)
+    (λ c. search needs)
+    (λ c κs. tt)
+    (λ c. search needs)
+    (λ c. search needs)
+    (λ c κs. tt)
+    (λ c. search needs)
+    (λ c κs. tt)
+    (λ c. search needs)
+    (λ c κs. tt)
+    (λ c. search needs)
+    (λ c κs. tt)
+    (λ c. search needs)
+    (λ c κs. tt)
+    (λ c. search needs)
+    (λ c κs. tt)
+    (λ c. search needs)
+    (λ c κs. tt)
+    (λ c. search needs)
+    (λ c κs. tt)
+    (λ c. simp (c .with .ensures, c .before .enum-told2 .given .1, c .before .before .before .enum-told .given .1))
+    (λ c. simp (c .with2 .ensures, c .before .enum-told3 .given .1, c .before .before .before .enum-told .given .1))
+    (λ c. simp (c .with3 .ensures, c .before .enum-told4 .given .1, c .before .before .before .enum-told .given .1))
+    (λ c. simp (c .with4 .ensures, c .before .if1 .taken, c .before .before .enum-told5 .given .1, c .before .before .before .before .enum-told .given .1))
+    (λ c. simp (c .unmarked .ensures, c .before .if1 .left, c .before .before .enum-told5 .given .1, c .before .before .before .before .enum-told .given .1))
+    (λ c. simp (c .with5 .ensures, c .before .enum-told6 .given .1, c .before .before .before .enum-told .given .1))
+    (λ c. simp (c .with6 .ensures, c .before .enum-told8 .given .1, c .before .before .before .enum-told7 .given .1))
+    (λ c. simp (c .with7 .ensures, c .before .enum-told9 .given .1, c .before .before .before .enum-told7 .given .1))
+    (λ c. simp (c .with8 .ensures, c .before .enum-told10 .given .1, c .before .before .before .enum-told7 .given .1))
+    (λ c. simp (c .with9 .ensures, c .before .enum-told11 .given .1, c .before .before .before .enum-told7 .given .1))
+    (λ c. simp (c .with10 .ensures, c .before .enum-told12 .given .1, c .before .before .before .enum-told7 .given .1))
+    (λ c. simp (c .with11 .ensures, c .before .enum-told13 .given .1))
+    (λ c. simp (c .with12 .ensures, c .before .enum-told14 .given .1))
+    (λ c. simp (c .with13 .ensures, c .before .enum-told15 .given .1)))

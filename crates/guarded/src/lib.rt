@@ -1,0 +1,2 @@
+// Document 02, request 05: the NEC decoder in guarded mode.
+pub mod decoder;
