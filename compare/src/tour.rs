@@ -45,6 +45,10 @@ An NEC frame breaks after eight bits: a sync of 13500, eight ones of 2250 each, 
 A pulse is a fall and the rise after it. These edges report something; the repeat shows the bits that came before the break.
 ";
 
+const GUARDED: &str = "\
+In guarded mode the same edges report an error in its place:
+";
+
 const REFUSALS: &str = "
 4. What is bad is refused, by a number
 Nothing that is asked can trip it: each of these calls comes back.
@@ -182,12 +186,13 @@ fn frame_table(out: &mut impl Write, mut told: Vec<u32>) -> io::Result<()> {
         None => return writeln!(out, "{}", answer),
     };
     writeln!(out, "Its durations, in ticks: {}", durations.len())?;
-    edge_table(out, &told[..2], 1, &durations, |_| true)
+    let opened = format!("open 0 {}", joined(&told[..2]));
+    edge_table(out, &opened, 1, &durations, |_| true)
 }
 
 /// Edges to a fresh decoder, by turns from a level.
-fn edge_calls(opened: &[u32], first: usize, durations: &[u32]) -> Vec<String> {
-    let mut calls = vec![format!("open 0 {}", joined(opened))];
+fn edge_calls(opened: &str, first: usize, durations: &[u32]) -> Vec<String> {
+    let mut calls = vec![opened.to_string()];
     for (place, duration) in durations.iter().enumerate() {
         calls.push(format!("total 0 {} {}", (first + place) % 2, duration));
     }
@@ -197,7 +202,7 @@ fn edge_calls(opened: &[u32], first: usize, durations: &[u32]) -> Vec<String> {
 /// A line for each of them, where what it reports is to be shown.
 fn edge_table(
     out: &mut impl Write,
-    opened: &[u32],
+    opened: &str,
     first: usize,
     durations: &[u32],
     is_shown: impl Fn(&str) -> bool,
@@ -232,7 +237,8 @@ fn sent_table(out: &mut impl Write, mut told: Vec<u32>) -> io::Result<()> {
 
 /// After noise.
 fn sent_row(out: &mut impl Write, told: &[u32]) -> io::Result<()> {
-    let mut calls = edge_calls(&[told[0], RATE], 1, &[3000, 2664, 889, 0]);
+    let opened = format!("open 0 {} {}", told[0], RATE);
+    let mut calls = edge_calls(&opened, 1, &[3000, 2664, 889, 0]);
     calls.push(format!("send 0 {}", joined(&told[1..])));
     let answer = ask_last(&calls)?;
     let parts: Vec<&str> = answer.split(", ").collect();
@@ -255,7 +261,10 @@ fn whole(out: &mut impl Write) -> io::Result<()> {
     writeln!(out, "With one tick less of silence, too:")?;
     sent_rows(out, 1, 0)?;
     out.write_all(HELD_KEY.as_bytes())?;
-    edge_table(out, &[1, RATE], 0, &BROKEN, |report| report != "nothing")?;
+    let is_shown = |report: &str| report != "nothing";
+    edge_table(out, "open 0 1 1000000", 0, &BROKEN, is_shown)?;
+    out.write_all(GUARDED.as_bytes())?;
+    edge_table(out, "guarded 0 1000000", 0, &BROKEN, is_shown)?;
     out.write_all(REFUSALS.as_bytes())?;
     for (asked, calls) in REFUSED {
         let calls: Vec<String> = calls.iter().map(|call| call.to_string()).collect();

@@ -4,9 +4,7 @@ use mathlib.Core.Path.{_≡_, refl, ap}
 use mathlib.Core.Bool.{Bool, true, false, cond, _||_, true≢false, false≢true}
 use lib.Bits.{bitOr}
 use lib.Dec.{eqb}
-use Rattle.spans.specs.declared.Spans.{Spans}
 use Rattle.reports.specs.Edges.{edge}
-use Rattle.reports.specs.Machine.{totalAfter}
 use Rattle.reports.specs.declared.Fault.the-variants.{Data}
 use Rattle.reports.proofs.Machine.{event-refused, total-refused, total-taken}
 use Rattle.nec.specs.Decoder as nec
@@ -15,7 +13,7 @@ use Rattle.nec.specs.declared.decoder.NecState.the-variants.{Init, Receiving, D
 use Rattle.nec.specs.declared.decoder.NecMemory.{NecMemory}
 use Rattle.guarded.specs.declared.decoder.GuardedMemory.{GuardedMemory}
 use Rattle.guarded.specs.Decoder.{memoryOf, markFromReceiving, guarded, stepIn, machine}
-use Rattle.guarded.specs.Rules.{reads, isBit, Rules}
+use Rattle.guarded.specs.Rules.{reads, Rules}
 
 -- ---- a pulse while bit n is awaited, by the two tests for a good bit
 

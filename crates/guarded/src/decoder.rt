@@ -12,10 +12,10 @@ ghost use Rattle.spans.specs.Spans.{columns, spansOf};
 ghost use Rattle.reports.specs.Edges.{edge};
 ghost use Rattle.reports.specs.Machine.{event, total};
 ghost use Rattle.nec.specs.Decoder as nec;
-ghost use Rattle.guarded.specs.Decoder.{memoryOf, machine, eventIn, totalIn, decoderOf, eventOf, totalOf, madeOf};
+ghost use Rattle.guarded.specs.Decoder.{machine, eventIn, totalIn, decoderOf, eventOf, totalOf, madeOf};
 ghost use Rattle.guarded.specs.Guard.{guardedEvent, unmarkedEvent, markedEvent};
 
-// The mark says whether the last synced frame ended with a good bit 31. Any memory and any mark may be handed in. The mark stands first: so a poll by number takes the fewest instructions.
+// The mark says whether the last synced frame ended with a good bit 31. Any memory and any mark may be handed in. The mark stands first: so a poll by number of an unchanged level takes the fewest instructions.
 pub struct GuardedMemory {
     pub mark: bool,
     pub nec: NecMemory,

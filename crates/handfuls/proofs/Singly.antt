@@ -22,7 +22,7 @@ use Rattle.reports.specs.declared.Report.{Report}
 use Rattle.reports.proofs.Machine.{reports-joined, after-joined, reports-counted}
 use Rattle.handfuls.specs.declared.Reason.the-variants.{AllUsed}
 use Rattle.handfuls.specs.Batch.{isNothing, Numbered, numbered, answersOf, Handful, handful, countedOn}
-use Rattle.handfuls.specs.Columns.{onto}
+use Rattle.frames.specs.Frames.{onto}
 use Rattle.handfuls.proofs.From.{unanswered, number-after}
 
 -- ---- answers of two lists of reports

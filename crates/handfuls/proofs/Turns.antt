@@ -21,7 +21,8 @@ use Rattle.reports.specs.declared.Report.{Report}
 use Rattle.handfuls.specs.declared.Reason.{Reason}
 use Rattle.handfuls.specs.declared.Reason.the-variants.{AllUsed, NoRoom, Refused}
 use Rattle.handfuls.specs.Batch.{edgesIn, isNothing, Numbered, answersOf, Handful, refused, handful, batch}
-use Rattle.handfuls.specs.Columns.{roomOf, kindOf, valueOf, onto, edgesLeft, kindsLeft, valuesLeft, batchInto, isFull, countAfter, putIn}
+use Rattle.frames.specs.Frames.{onto}
+use Rattle.handfuls.specs.Columns.{roomOf, kindOf, valueOf, edgesLeft, kindsLeft, valuesLeft, batchInto, isFull, countAfter, putIn}
 use Rattle.handfuls.proofs.Edges.{edges-counted, edge-at}
 use Rattle.handfuls.proofs.From.{picked, from, from-start, from-nil, quiet-edge, full-edge, loud-edge}
 

@@ -2,11 +2,12 @@
 -- A report's numbers are those of `reports`.
 use Prim.Native.Nat.{ℕ, _+_, _*_}
 use mathlib.Core.Bool.{Bool, false, cond}
-use mathlib.Core.List.{List, [], _∷_, _++_, map}
+use mathlib.Core.List.{List, [], _∷_, map}
 use lib.Dec.{leb, ltb}
-use lib.ListN.{length, drop, set}
+use lib.ListN.{length, set}
 use Rattle.spans.specs.declared.Spans.{Spans}
 use Rattle.commands.specs.Command.{valuesOf}
+use Rattle.frames.specs.Frames.{onto}
 use Rattle.reports.specs.Machine.{Machine}
 use Rattle.reports.specs.Reports.{faultNumber, reportNumbers}
 use Rattle.reports.specs.declared.Report.{Report}
@@ -36,10 +37,7 @@ valueOf (report.Command command) = packedOf (valuesOf command)
 valueOf (report.Error fault) = faultNumber fault
 valueOf (report.Refused number) = number
 
--- "Places past the last answer stay"
-abbrev pub onto : List ℕ → List ℕ → List ℕ
-onto column lent = column ++ drop (length column) lent
-
+-- what is left in each column. "Places past the last answer stay"
 abbrev pub edgesLeft : List Numbered → List ℕ → List ℕ
 edgesLeft answers lent = onto (map (λ answer. answer .edge) answers) lent
 

@@ -7,10 +7,7 @@ use native.Mathlib.Omega.{arith}
 use lib.Dec.{eqb}
 use lib.ListN.{getD, length}
 use Rattle.refusals.proofs.Within.{both-left, both-right}
-use Rattle.spans.specs.declared.Spans.{Spans}
-use Rattle.commands.specs.Rc5.{bitOf}
 use Rattle.commands.specs.declared.Command.the-variants as command
-use Rattle.commands.specs.declared.nec.NecCommand.{NecCommand}
 use Rattle.reports.specs.Edges.{Edge, alternating}
 use Rattle.reports.specs.Machine.{runReports, runAfter}
 use Rattle.reports.specs.Reports.{Numbers, reportNumbers}

@@ -1,10 +1,9 @@
 -- Whose command a repeat carries in guarded mode. From a fresh start a mark stands only in Init, and then the bits there are those of the last whole command that was
 -- reported. Each edge keeps this, by cases on NEC's rules, and a repeat is reported only with the mark. So a run keeps it. Assumes nothing.
-use mathlib.Core.Path.{_≡_, refl, sym, ap, _∙_}
-use mathlib.Core.Bool.{Bool, true, false, cond, false≢true}
+use mathlib.Core.Path.{_≡_, refl}
+use mathlib.Core.Bool.{Bool, true, false, false≢true}
 use mathlib.Core.List.{List, [], _∷_, foldl}
 use Prim.Native.Nat.{ℕ, _+_}
-use lib.Bits.{bitOr}
 use lib.Dec.{eqb}
 use borrow.Author.Tests.{eqb-true}
 use Rattle.spans.specs.Lookup.{lookupOf, placeOf}
@@ -21,7 +20,7 @@ use Rattle.reports.proofs.Either.{either}
 use Rattle.reports.proofs.Machine.{total-taken, total-refused}
 use Rattle.nec.specs.Decoder as nec
 use Rattle.nec.specs.declared.decoder.NecState.{NecState}
-use Rattle.nec.specs.declared.decoder.NecState.the-variants.{Init, Receiving, Done, RepeatDone, Error}
+use Rattle.nec.specs.declared.decoder.NecState.the-variants.{Init, Receiving, Done, RepeatDone}
 use Rattle.nec.specs.declared.decoder.NecMemory.{NecMemory}
 use Rattle.guarded.specs.Decoder as guarded
 use Rattle.guarded.specs.declared.decoder.GuardedMemory.{GuardedMemory}

@@ -29,6 +29,7 @@ use Rattle.handfuls.specs.Batch.{edgesIn, isNothing, Numbered, numbered, answer
 use Rattle.handfuls.proofs.Singly.{alone, all-of-them}
 use Rattle.promises.specs.Heard.{quiet, onlyAt, Heard, spansAt1MHz}
 use Rattle.promises.specs.HeardInBatch.{levelsFrom, answerNumbers, firstAnswer, HeardInBatch, EveryNecInBatch, EveryRc5InBatch, EveryRc6InBatch}
+use Rattle.promises.proofs.Run.{length-alternating}
 use Rattle.promises.proofs.NecHeard.{nec-heard, nec-closed-heard}
 use Rattle.promises.proofs.Rc5Heard.{rc5-heard}
 use Rattle.promises.proofs.Rc6Heard.{rc6-heard}
@@ -105,11 +106,6 @@ unfolding levelsFrom edgesIn alternating
 as-edges level [] = refl
 as-edges level (d ∷ ds) = ap (λ (rest : List Edge). edge level d ∷ rest) (as-edges (not level) ds)
 
-alternating-counted : (level : Bool) (durations : List ℕ) → length (alternating level durations) ≡ length durations
-unfolding alternating
-alternating-counted level [] = refl
-alternating-counted level (d ∷ ds) = ap suc (alternating-counted (not level) ds)
-
 module _ (M : Machine) (spans : Spans) where
   -- a call in alternating levels to a memory that is not refused is taken
   call-taken
@@ -132,7 +128,7 @@ module _ (M : Machine) (spans : Spans) where
       let told = in-numbers 0 (runReports M spans m (alternating true came)) ∙ ap (answersIn 0) numbers ∙ only-answers (length frame) reporting first sent after in
       let two : length answers ≤ room = omega (arith, enough, sym (length-map answers answerNumbers) ∙ ap length told, few first ((reporting, reportNumbers (report.Command sent)) ∷ [])) in
       rw (call-taken room m came (taken earlier), all-of-them M spans m (alternating true came) room two)
-      (first, may, told, refl, alternating-counted true came)
+      (first, may, told, refl, length-alternating true came)
 
 -- ---- of NEC, RC5 and RC6
 

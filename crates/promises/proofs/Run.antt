@@ -23,7 +23,7 @@ pub near-length : {deviation : ℕ} {sent came : List ℕ} → Near deviation se
 near-length none = refl
 near-length (more low high rest) = ap suc (near-length rest)
 
-length-alternating : (rising : Bool) (durations : List ℕ) → length (alternating rising durations) ≡ length durations
+pub length-alternating : (rising : Bool) (durations : List ℕ) → length (alternating rising durations) ≡ length durations
 unfolding alternating
 length-alternating rising [] = refl
 length-alternating rising (duration ∷ durations) = ap suc (length-alternating (not rising) durations)

@@ -1,7 +1,7 @@
 -- "NEC fresh, through event_total: pair totals": what is reported of them at 1 MHz, however each total is parted into a falling and a rising edge.
 use Prim.Native.Nat.{ℕ, suc, _+_}
 use mathlib.Core.Path.{_≡_}
-use mathlib.Core.Bool.{true, false}
+use mathlib.Core.Bool.{true}
 use mathlib.Core.List.{List, [], _∷_, _++_, map}
 use lib.ListN.{take, drop}
 use Rattle.commands.specs.declared.Command.the-variants as command

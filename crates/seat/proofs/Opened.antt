@@ -2,12 +2,12 @@
 -- Assumes nothing.
 use mathlib.Core.Path.{_≡_, refl, ap}
 use mathlib.Core.Bool.{Bool, true, false, cond, _&&_}
-use mathlib.Core.List.{List, _++_}
+use mathlib.Core.List.{List}
 use Prim.Native.Nat.{ℕ, zero, suc, _≤_}
 use native.Mathlib.Omega.{arith}
 use borrow.Author.Tests.{leb-true}
 use lib.Dec.{leb}
-use Rattle.refusals.specs.Refusals.{badProtocol, badRate, protocolTaken, rateTaken}
+use Rattle.refusals.specs.Refusals.{badProtocol, badRate, rateTaken}
 use Rattle.spans.specs.Spans.{spansOf, spansAt, refused, refusalNumber}
 use Rattle.spans.specs.declared.Answer.{Answer}
 use Rattle.spans.specs.declared.Answer.the-variants.{Taken, Refused}

@@ -1,14 +1,13 @@
 -- A decoder that is read back from its numbers is that decoder, where its fields fit their types: so nothing is lost between two calls. By cases on the
 -- protocol and the state. Assumes nothing.
-use mathlib.Core.Path.{_≡_, refl, ap, _∙_}
+use mathlib.Core.Path.{_≡_, refl, ap}
 use mathlib.Core.Bool.{Bool, true, false}
 use mathlib.Core.List.{List, _++_}
-use Prim.Native.Nat.{ℕ, _+_, _*_, _/_, _%_, _^_, _<_}
+use Prim.Native.Nat.{ℕ, _+_, _%_, _<_}
 use native.Mathlib.Omega.{arith}
 use lib.Dec.{eqb}
 use lib.ListN.{length}
 use Rattle.spans.specs.Spans.{columns, eight}
-use Rattle.spans.specs.declared.Spans.{Spans}
 use Rattle.commands.specs.Rc5.{bitOf}
 use Rattle.reports.specs.Reports.{faultNumber}
 use Rattle.reports.specs.declared.Fault.{Fault}
@@ -23,7 +22,6 @@ use Rattle.sbp.specs.declared.decoder.SbpState.{SbpState}
 use Rattle.sbp.specs.declared.decoder.SbpState.the-variants as sbp
 use Rattle.denon.specs.declared.decoder.DenonState.{DenonState}
 use Rattle.denon.specs.declared.decoder.DenonState.the-variants as denon
-use Rattle.protocols.specs.Decoder.{decoderOf}
 use Rattle.protocols.specs.declared.decoder.Memory.{Memory}
 use Rattle.protocols.specs.declared.decoder.Memory.the-variants.{Nec, Rc5, Rc6, Sbp, Denon, Guarded}
 use Rattle.protocols.specs.declared.decoder.Decoder.{Decoder}

@@ -1,8 +1,8 @@
 -- `typed_polls::guarded_polls::by_value` meets its contract: it goes by the turn. Assumes nothing.
-use mathlib.Core.Path.{refl, sym, ap}
+use mathlib.Core.Path.{refl}
 use borrow.Author.Needs.{needs}
 use Rattle.guarded.specs.Decoder.{machine}
-use Rattle.typed_polls.specs.Receivers.{guardedKept, guardedAnswer}
+use Rattle.typed_polls.specs.Receivers.{guardedKept}
 use Rattle.typed_polls.proofs.Polls.{by-turn}
 use Rattle.typed_polls.proofs.guarded_polls.by_value.Statement.{statement}
 use Rattle.typed_polls.proofs.guarded_polls.by_value.Tie as tie
