@@ -1,13 +1,16 @@
 /* The driver of bench/run: makes edges, commands or levels and hands them to one side.
  *   main SIDE KIND PROTOCOL COUNT
  * SIDE is ours or crate; for polls also typed: ours, with the protocol's own receiver; for edges also batch or typedbatch: ours by the handful, with the batch by number or the
- * protocol's own. KIND is frames, noise or held: edges, at 1 MHz, the first one rising, of frames, of any size, of NEC's frames and repeats; build: decoders, handed no edge; encode:
- * commands; quiet, changing or polled: levels, at 40 kHz, that never change, change at each poll, or are those of the frames. COUNT is how many of them are handed over; prints the
- * number that the reports, or the lengths of the encoded frames, come to. Both sides get the same. All is made whatever the COUNT, so that between two COUNTs only the work differs.
+ * protocol's own; number or either: ours, with the decoder by number, in a unit that opens no guarded mode or in one that may; box: ours, at a place of the box of eight. KIND is frames,
+ * noise or held: edges, at 1 MHz, the first one rising, of frames, of any size, of NEC's frames and repeats; build: decoders, handed no edge; encode: commands; quiet, changing or polled:
+ * levels, at 40 kHz, that never change, change at each poll, or are those of the frames; spread: edges of frames, each for two places of the box in turn, or for two of the crate's
+ * decoders one after the other; boxbuild: boxes, or eight of the crate's decoders for each; boxopen or boxvalueopen: a place that is closed and opened, lent or by value, or the crate's
+ * decoder built. COUNT is how many of them are handed over; prints the number that the reports, or the lengths of the encoded frames, come to. Both sides get the same. All is made
+ * whatever the COUNT, so that between two COUNTs only the work differs.
  *   main SIDE KIND PROTOCOL stack
  * Prints how many bytes of stack the call takes.
- *   main crate record PROTOCOL 0, main crate polledrecord PROTOCOL 0
- * Print how many bytes the crate's decoder and its polled receiver take. */
+ *   main crate record PROTOCOL 0, main crate polledrecord PROTOCOL 0, main crate boxrecord PROTOCOL 0
+ * Print how many bytes the crate's decoder, its polled receiver and eight of its decoders take. */
 #include <stdbool.h>
 #include <stdint.h>
 #include <stdio.h>
@@ -21,15 +24,25 @@
 #define FRAME 67
 #define BATCH 3  /* the side from which on edges go by the handful */
 #define PLACES 8 /* for the answers of a batch */
+#define NUMBER 5 /* the sides by number, edge by edge, .. */
+#define EITHER 6
+#define BOX 7    /* .. and of the box */
+#define EIGHT 8  /* receivers in a box */
+#define PLACE 3  /* where the row's receiver is opened */
+#define GUARDED 6 /* in place of a number */
 
 typedef uint64_t run_edges(const uint32_t *durations, size_t count, uint32_t rate);
 typedef uint64_t run_batches(const bool *rising, size_t rises, const uint32_t *durations, size_t count, size_t *edges, size_t edge_places, uint32_t *kinds, size_t kind_places,
                              uint64_t *values, size_t value_places, uint32_t protocol, uint32_t rate);
+typedef uint64_t run_number(const uint32_t *durations, size_t count, uint32_t protocol, uint32_t rate);
+typedef uint64_t run_box(const uint32_t *durations, size_t count, uint32_t protocol, uint32_t rate, size_t place, size_t turns);
 typedef uint64_t run_polls(const uint8_t *levels, size_t count, uint32_t protocol, uint32_t rate);
 typedef size_t encode_frame(uint8_t addr, uint8_t cmd, uint8_t start, bool toggle, uint32_t rate, uint32_t *frame, size_t room);
 
 run_polls bench_polls, bench_guarded_polls;
 run_batches bench_batches, bench_guarded_batches;
+run_number bench_number, bench_guarded_number;
+run_box bench_box, bench_box_spread, bench_box_build, bench_box_open, bench_box_open_by_value;
 #define SIDES(name) \
     run_edges bench_##name, crate_##name; \
     run_batches bench_batch_##name; \
@@ -220,8 +233,43 @@ __attribute__((noinline)) static uint64_t batch(const struct row *row, int which
     return row->batches[which](rising, count, edges, count, places, PLACES, kinds, PLACES, values, PLACES, (uint32_t)(row - rows) + 1, RATE);
 }
 
+/* each edge twice: for two places in turn */
+static uint64_t spread(uint32_t protocol, size_t count) {
+    static uint32_t twice[ROOM];
+    for (size_t i = 0; i < ROOM; i++) twice[i] = edges[i / 2];
+    return bench_box_spread(twice, count, protocol, RATE, PLACE, 0);
+}
+
+static uint64_t build_boxes(uint32_t protocol, size_t count) {
+    uint64_t sum = 0;
+    for (size_t i = 0; i < count; i++) sum += bench_box_build(edges, 0, protocol, RATE, PLACE, 0);
+    return sum;
+}
+
+/* by number, or in the box; not inlined, as `batch` */
+__attribute__((noinline)) static uint64_t by_number(const struct row *row, int side, const char *kind, size_t count) {
+    uint32_t protocol = (uint32_t)(row - rows) + 1;
+    if (side == EITHER || (side == NUMBER && protocol == GUARDED)) return bench_guarded_number(edges, count, protocol, RATE);
+    if (side == NUMBER) return bench_number(edges, count, protocol, RATE);
+    if (!strcmp(kind, "spread")) return spread(protocol, count);
+    if (!strcmp(kind, "boxbuild")) return build_boxes(protocol, count);
+    if (!strcmp(kind, "boxopen")) return bench_box_open(edges, 0, protocol, RATE, PLACE, count);
+    if (!strcmp(kind, "boxvalueopen")) return bench_box_open_by_value(edges, 0, protocol, RATE, PLACE, count);
+    return bench_box(edges, count, protocol, RATE, PLACE, 0);
+}
+
+/* what the crate has in the box's place: a decoder for each receiver */
+__attribute__((noinline)) static uint64_t crates_box(const struct row *row, const char *kind, size_t count) {
+    run_edges *fed = row->edges[1];
+    if (!strcmp(kind, "spread")) return fed(edges, count / 2, RATE) + fed(edges, count / 2, RATE);
+    if (!strcmp(kind, "boxrecord")) return EIGHT * *row->record;
+    return build(row, 1, !strcmp(kind, "boxbuild") ? EIGHT * count : count);
+}
+
 static uint64_t run(const struct row *row, int side, const char *kind, size_t count) {
     uint32_t protocol = (uint32_t)(row - rows) + 1;
+    if (side >= NUMBER) return by_number(row, side, kind, count);
+    if (!strcmp(kind, "spread") || !strncmp(kind, "box", 3)) return crates_box(row, kind, count);
     if (!strcmp(kind, "record")) return *row->record;
     if (!strcmp(kind, "polledrecord")) return *row->polled_record;
     if (!strcmp(kind, "encode")) return encode_frames(row, side, count);
@@ -266,7 +314,7 @@ static size_t stack_of(const struct row *row, int side, const char *kind) {
 }
 
 static void make(const struct row *row, const char *kind) {
-    if (!strcmp(kind, "quiet") || !strcmp(kind, "build")) return;
+    if (!strcmp(kind, "quiet") || !strcmp(kind, "build") || !strncmp(kind, "box", 3)) return;
     if (!strcmp(kind, "changing")) make_changes();
     else if (!strcmp(kind, "noise")) make_noise();
     else if (!strcmp(kind, "held")) make_held();
@@ -279,8 +327,8 @@ static void make(const struct row *row, const char *kind) {
 }
 
 static int side_of(const char *name) {
-    static const char *const sides[] = {"ours", "crate", "typed", "batch", "typedbatch"};
-    int side = 4;
+    static const char *const sides[] = {"ours", "crate", "typed", "batch", "typedbatch", "number", "either", "box"};
+    int side = BOX;
     while (side && strcmp(name, sides[side])) side--;
     return side;
 }

@@ -1,6 +1,6 @@
 //! The expected answer to each call: the crate's where its spans are document 01's,
 //! else document 01's. The answers to the calls on frames are in encode.rs, those to the calls on
-//! slots are in slots.rs.
+//! slots are in slots.rs, those to the calls on the box in boxes.rs.
 
 use std::fmt;
 use std::io::{self, BufRead, Write};
@@ -12,6 +12,7 @@ use crate::frames;
 use crate::oracle;
 use crate::send;
 use crate::slots::Slots;
+use crate::text::push;
 
 /// Who gave an answer.
 #[derive(Clone, Copy, PartialEq)]
@@ -31,6 +32,8 @@ pub enum Source {
     NotAsked,
     /// An edge waits: nobody is asked.
     Waits,
+    /// A place of the box is opened or closed, or the box is a new one: the driver keeps them.
+    Places,
     Refused,
     /// The slot holds nothing.
     NotOpen,
@@ -48,7 +51,7 @@ const DOCUMENT: [Source; 5] = [
 
 /// How many answers each source gave, in the order of `Source`.
 #[derive(Default)]
-pub struct Counts([u64; 10]);
+pub struct Counts([u64; 11]);
 
 impl Counts {
     pub fn add(&mut self, source: Source) {
@@ -78,14 +81,15 @@ impl Counts {
 impl fmt::Display for Counts {
     fn fmt(&self, f: &mut fmt::Formatter) -> fmt::Result {
         let [by_crate, other_spans, above_crate, not_built, after_sum, rest @ ..] = self.0;
-        let [not_asked, waits, refused, not_open, not_understood] = rest;
+        let [not_asked, waits, places, refused, not_open, not_understood] = rest;
         write!(
             f,
             "answered by the crate {}, by document 01 where the crate's spans differ {}, \
              by document 01 above 32 bits {}, by document 01 at a rate that is not built {}, \
              by document 01 after a sum above 32 bits {}, \
              by document 01 where the crate cannot be asked {}, \
-             edges that wait {}, refused {}, not open {}, not understood {}",
+             edges that wait {}, places of the box opened and closed {}, refused {}, not open {}, \
+             not understood {}",
             by_crate,
             other_spans,
             above_crate,
@@ -93,6 +97,7 @@ impl fmt::Display for Counts {
             after_sum,
             not_asked,
             waits,
+            places,
             refused,
             not_open,
             not_understood
@@ -129,11 +134,18 @@ pub fn answer(call: &Call, slots: &mut Slots, text: &mut Vec<u8>) -> Source {
         Call::Guarded { slot, rate } => return slots.guarded(slot, rate, text),
         Call::Bounds { protocol } => bounds(protocol),
         Call::Wait { place, edge } => return slots.wait(place, edge, text),
+        Call::Box(ref ask) => return slots.answer_box(ask, text),
     };
     let (shown, source) =
         told.unwrap_or_else(|refusal| (format!("refused {}", refusal), Source::Refused));
     text.extend_from_slice(shown.as_bytes());
     source
+}
+
+/// Adds the answer to `text`.
+pub fn refused(refusal: u32, text: &mut Vec<u8>) -> Source {
+    push(text, "refused ", u64::from(refusal));
+    Source::Refused
 }
 
 /// Adds the answer to a line without its newline.

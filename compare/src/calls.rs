@@ -1,6 +1,6 @@
 //! The call language: one call a line, a name and its numbers, separated by exactly one blank.
-//! A new call is a case of `Call` or `Ask`, a line where `Words` reads it and where it is written,
-//! and its answer in answers.rs or slots.rs.
+//! A new call is a case of `Call`, `Ask` or `BoxAsk`, a line where `Words` reads it and where it is
+//! written, and its answer in answers.rs, slots.rs or boxes.rs.
 
 use std::convert::TryFrom;
 use std::fmt;
@@ -55,10 +55,15 @@ pub enum Call {
     Bounds { protocol: u32 },
     /// An edge waits at a place of the two lists.
     Wait { place: usize, edge: Edge },
+    /// What is asked of the box.
+    Box(BoxAsk),
 }
 
 /// The slots are 0 to 7.
 pub const SLOTS: usize = 8;
+
+/// The places of the box are 0 to 7.
+pub const BOX_PLACES: usize = 8;
 
 /// The most edges that wait.
 pub const WAITING: usize = 64;
@@ -82,6 +87,36 @@ pub enum Ask {
     Send(Send),
     /// The edges that wait go to the decoder.
     Batch(Batch),
+}
+
+/// What is asked of the box, the record in which receivers are opened at one rate. A place may be
+/// any number.
+pub enum BoxAsk {
+    /// The box is a new one.
+    New { rate: u32 },
+    /// A fresh receiver in the lowest free place.
+    Open { protocol: u32 },
+    /// The same of NEC in guarded mode.
+    Guard,
+    /// The place is free.
+    Close { place: u32 },
+    /// What is asked of the receiver at a place.
+    At { place: u32, ask: PlaceAsk },
+}
+
+pub enum PlaceAsk {
+    /// The status after an edge.
+    Event(Edge),
+    /// What event_total reports.
+    Total(Edge),
+    /// The command.
+    Show,
+    Reset,
+    /// A protocol's first or last bit counter is set.
+    Count {
+        is_last: bool,
+        number: u32,
+    },
 }
 
 /// So many of the levels and of the durations that wait, and columns of `room` places. Each place
@@ -156,6 +191,16 @@ impl Call {
         }
     }
 
+    /// A fresh receiver of that mode in the box.
+    pub fn box_open(mode: Mode) -> Call {
+        Call::Box(match mode {
+            Mode::Plain(protocol) => BoxAsk::Open {
+                protocol: protocol.number(),
+            },
+            Mode::Guarded => BoxAsk::Guard,
+        })
+    }
+
     /// A fresh polled receiver of that mode.
     pub fn polled(mode: Mode, slot: usize, rate: u32) -> Call {
         match mode {
@@ -203,6 +248,7 @@ impl fmt::Display for Call {
             Call::Guarded { slot, rate } => write!(f, "guarded {} {}", slot, rate),
             Call::Bounds { protocol } => write!(f, "bounds {}", protocol),
             Call::Wait { place, edge } => write!(f, "wait {} {}", place, edge),
+            Call::Box(ask) => write!(f, "{}", ask),
         }
     }
 }
@@ -217,6 +263,32 @@ impl Ask {
             Ask::Reset => write!(f, "reset {}", slot),
             Ask::Send(sent) => write!(f, "send {} {}", slot, sent),
             Ask::Batch(batch) => write!(f, "batch {} {}", slot, batch),
+        }
+    }
+}
+
+impl fmt::Display for BoxAsk {
+    fn fmt(&self, f: &mut fmt::Formatter) -> fmt::Result {
+        match self {
+            BoxAsk::New { rate } => write!(f, "box {}", rate),
+            BoxAsk::Open { protocol } => write!(f, "boxopen {}", protocol),
+            BoxAsk::Guard => write!(f, "boxguard"),
+            BoxAsk::Close { place } => write!(f, "boxclose {}", place),
+            BoxAsk::At { place, ask } => ask.write(f, *place),
+        }
+    }
+}
+
+impl PlaceAsk {
+    fn write(&self, f: &mut fmt::Formatter, place: u32) -> fmt::Result {
+        match self {
+            PlaceAsk::Event(edge) => write!(f, "boxevent {} {}", place, edge),
+            PlaceAsk::Total(edge) => write!(f, "boxtotal {} {}", place, edge),
+            PlaceAsk::Show => write!(f, "boxshow {}", place),
+            PlaceAsk::Reset => write!(f, "boxreset {}", place),
+            PlaceAsk::Count { is_last, number } => {
+                write!(f, "boxcount {} {} {}", place, u8::from(*is_last), number)
+            }
         }
     }
 }
@@ -316,7 +388,42 @@ impl<'a, I: Iterator<Item = &'a [u8]>> Words<I> {
                 place: self.number_up_to(WAITING - 1)?,
                 edge: self.edge()?,
             },
+            name if name.starts_with(b"box") => Call::Box(self.box_ask(name)?),
             name => self.slot_call(name)?,
+        })
+    }
+
+    /// The same, of a call on the box.
+    fn box_ask(&mut self, name: &[u8]) -> Option<BoxAsk> {
+        Some(match name {
+            b"box" => BoxAsk::New {
+                rate: self.number()?,
+            },
+            b"boxopen" => BoxAsk::Open {
+                protocol: self.number()?,
+            },
+            b"boxguard" => BoxAsk::Guard,
+            b"boxclose" => BoxAsk::Close {
+                place: self.number()?,
+            },
+            name => BoxAsk::At {
+                place: self.number()?,
+                ask: self.place_ask(name)?,
+            },
+        })
+    }
+
+    fn place_ask(&mut self, name: &[u8]) -> Option<PlaceAsk> {
+        Some(match name {
+            b"boxevent" => PlaceAsk::Event(self.edge()?),
+            b"boxtotal" => PlaceAsk::Total(self.edge()?),
+            b"boxshow" => PlaceAsk::Show,
+            b"boxreset" => PlaceAsk::Reset,
+            b"boxcount" => PlaceAsk::Count {
+                is_last: self.flag()?,
+                number: self.number()?,
+            },
+            _ => return None,
         })
     }
 

@@ -3,6 +3,7 @@
 use std::collections::BTreeSet;
 
 use crate::batch_lists;
+use crate::box_lists;
 use crate::calls::{Call, Lookup};
 use crate::closed_frame_lists;
 use crate::document::{self, Protocol, PROTOCOLS};
@@ -40,7 +41,7 @@ impl Part {
 }
 
 /// The parts of the large run, in their order.
-pub static PARTS: [Part; 19] = [
+pub static PARTS: [Part; 20] = [
     part("spans", spans_part),
     part("measure", measure_lists::measure_part),
     part("nec", frame_lists::nec_part),
@@ -64,6 +65,7 @@ pub static PARTS: [Part; 19] = [
     longer_part("guarded-edges", guarded_lists::edges_part),
     longer_part("guarded-polls", guarded_lists::polls_part),
     longer_part("guarded-batches", guarded_lists::batches_part),
+    longer_part("boxes", box_lists::boxes_part),
 ];
 
 const fn part(name: &'static str, calls: fn() -> Calls) -> Part {
@@ -103,17 +105,22 @@ pub fn part_named(name: &str) -> Option<&'static [Part]> {
 const COUNTERS: [u32; 13] = [0, 3, 4, 12, 13, 15, 16, 19, 20, 31, 32, 47, 48];
 
 impl Random {
-    /// A bit counter at or past its end, or anywhere.
     pub fn counter_call(&mut self, slot: usize) -> Call {
-        let any = self.next() as u32 >> self.below(32);
+        let (is_last, number) = self.counter();
         Call::Counter {
             slot,
-            is_last: self.once_in(2),
-            number: if self.once_in(8) {
-                any
-            } else {
-                self.one_of(&COUNTERS)
-            },
+            is_last,
+            number,
+        }
+    }
+
+    /// Which bit counter, and its number: at or past its end, or anywhere.
+    pub fn counter(&mut self) -> (bool, u32) {
+        let any = self.next() as u32 >> self.below(32);
+        let is_last = self.once_in(2);
+        match self.once_in(8) {
+            true => (is_last, any),
+            false => (is_last, self.one_of(&COUNTERS)),
         }
     }
 }

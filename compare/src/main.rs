@@ -4,6 +4,8 @@
 mod answers;
 mod batch;
 mod batch_lists;
+mod box_lists;
+mod boxes;
 mod calls;
 mod closed;
 mod closed_frame_lists;
@@ -14,6 +16,7 @@ mod edge_lists;
 mod encode;
 mod encoders;
 mod ended;
+mod fitting;
 mod frame_lists;
 mod frames;
 mod guarded;
@@ -39,6 +42,7 @@ mod rates;
 mod receivers;
 mod recorded;
 mod recorded_batches;
+mod recorded_boxes;
 mod recorded_counters;
 mod recorded_frames;
 mod recorded_guarded;
@@ -49,9 +53,11 @@ mod recorded_runs;
 mod recorded_scenes;
 mod recorded_slots;
 mod recorded_steps;
+mod reported;
 mod reports;
 mod scene;
 mod send;
+mod slot;
 mod slots;
 mod text;
 mod tour;
@@ -72,7 +78,7 @@ const USAGE: &str = "usage:
                                      the calls of the large run
   compare large [--part NAME] [--times N] PROGRAM [ARGS..]
                                      the large run against a program; the parts of edges,
-                                     polls and batches are made N times longer
+                                     polls, batches and boxes are made N times longer
   compare mutated [--times N] TOUR PROGRAM [ARGS..]
                                      bad input: mutated lines and files to the program,
                                      mutated words to TOUR, closed outputs of both; N passes
@@ -134,8 +140,8 @@ fn run(words: &[OsString]) -> io::Result<Option<bool>> {
     held
 }
 
-/// All parts, or the one that the words name, and how much longer those of edges, polls and batches
-/// are; and the words after. `None` where the part is unknown or the number is none.
+/// All parts, or the one that the words name, and how much longer those of edges, polls, batches
+/// and boxes are; and the words after. `None` where the part is unknown or the number is none.
 fn choose(words: &[OsString]) -> Option<(Choice, &[OsString])> {
     let (parts, words) = match words {
         [option, name, rest @ ..] if option == "--part" => {

@@ -36,7 +36,8 @@ const LONG_ONCE_IN: u32 = 200;
 
 const LENGTHS: [usize; 5] = [65_535, 65_536, 65_537, 70_000, 1 << 20];
 
-/// Edges of 8, 32, 63 and 64 bits, of slots, rooms, lists, rates and counts, and what is no number.
+/// Edges of 8, 32, 63 and 64 bits, of slots, places, rooms, lists, rates and counts, and what is no
+/// number.
 pub const EDGES: [&str; 37] = [
     "0",
     "1",

@@ -2,6 +2,7 @@
 //! that it would show.
 
 use crate::recorded_batches::*;
+use crate::recorded_boxes::*;
 use crate::recorded_counters::*;
 use crate::recorded_guarded::*;
 use crate::recorded_measures::*;
@@ -162,6 +163,42 @@ scenes! {
     guarded_takes_another_slot,
     guarded_spans_are_those_of_1_mhz,
     wrong_guarded_is_taken,
+    // The first of these: the box is as at the start.
+    box_is_missing_at_first,
+    highest_free_place_is_taken,
+    first_closed_place_is_taken,
+    last_closed_place_is_taken,
+    place_after_the_last_is_taken,
+    reopened_place_keeps_its_state,
+    reopened_place_keeps_its_saved_duration,
+    reopened_place_keeps_its_mark,
+    reopened_place_keeps_its_protocol,
+    counter_of_a_closed_place_is_tested,
+    closing_frees_two,
+    closing_moves_the_others,
+    edge_moves_another_place,
+    edge_goes_to_another_place,
+    protocols_share_a_box,
+    spans_of_another_protocol_are_lent,
+    ninth_receiver_is_opened,
+    full_box_is_tested_before_the_protocol,
+    refused_open_takes_a_place,
+    place_goes_round,
+    place_is_closed_twice,
+    refused_box_empties_the_places,
+    new_box_keeps_its_places,
+    new_box_keeps_the_old_rate,
+    reset_reaches_another_place,
+    closed_place_shows_its_command,
+    guarded_place_lends_its_mark,
+    saved_duration_is_shared,
+    denon_bits_are_shared,
+    clock_is_shared,
+    refusal_4_stops_another_place,
+    counter_reaches_another_place,
+    event_in_the_box_resets,
+    place_is_a_slot,
+    wrong_box_call_is_taken,
 }
 
 fn scene_of(write: fn(&mut Scene)) -> Scene {

@@ -49,8 +49,20 @@ const GUARDED: &str = "\
 In guarded mode the same edges report an error in its place:
 ";
 
+const BOX: &str = "
+4. Two patrons, one box
+A box holds up to eight receivers at one rate: here one of NEC at place 0 and one of RC5 at place 1. Two frames come at once,
+NEC address 4, command 8, and RC5 address 5, command 12, an edge of each by turns. These edges report something:
+place edge level     after  reports
+";
+
+const BOX_LATER: &str = "\
+A place that is closed and opened again has a fresh receiver:
+asked                                                                    answered
+";
+
 const REFUSALS: &str = "
-4. What is bad is refused, by a number
+5. What is bad is refused, by a number
 Nothing that is asked can trip it: each of these calls comes back.
 asked                                                                    answered
 ";
@@ -74,6 +86,22 @@ const REFUSED: [(&str, &[&str]); 4] = [
         "an edge, of a decoder of NEC that is told to be at bit 32",
         &["open 0 1 1000000", "counter 0 0 32", "total 0 1 1120"],
     ),
+];
+
+/// The box and its two receivers, and the frames that come to their places.
+const BOX_OPENED: [&str; 3] = ["box 1000000", "boxopen 1", "boxopen 2"];
+const BOX_FRAMES: [&str; 2] = [
+    "encode 1 1000000 4 8 3 0 67",
+    "encode 2 1000000 5 12 3 0 67",
+];
+
+/// What is asked of the box after the two frames, and the call that asks it.
+const BOX_ASKED: [(&str, &str); 5] = [
+    ("a repeat at place 0, of 11250", "boxtotal 0 1 11250"),
+    ("to close place 0", "boxclose 0"),
+    ("a repeat at place 0", "boxtotal 0 1 11250"),
+    ("to open a receiver of NEC", "boxopen 1"),
+    ("a repeat at place 0", "boxtotal 0 1 11250"),
 ];
 
 /// Document 01's starred pulses: 13500, eight of 2250, 5000, 11250. The first edge falls.
@@ -181,13 +209,19 @@ fn frame_table(out: &mut impl Write, mut told: Vec<u32>) -> io::Result<()> {
         told.extend(START_TOGGLE);
     }
     let answer = ask_last(&[format!("encode {} {}", joined(&told), ROOM)])?;
-    let durations: Vec<u32> = match answer.strip_prefix("wrote ") {
-        Some(wrote) => wrote.split(' ').skip(1).flat_map(str::parse).collect(),
+    let durations = match durations(&answer) {
+        Some(durations) => durations,
         None => return writeln!(out, "{}", answer),
     };
     writeln!(out, "Its durations, in ticks: {}", durations.len())?;
     let opened = format!("open 0 {}", joined(&told[..2]));
     edge_table(out, &opened, 1, &durations, |_| true)
+}
+
+/// Those of an encode call's answer; `None` where it is refused.
+fn durations(answer: &str) -> Option<Vec<u32>> {
+    let wrote = answer.strip_prefix("wrote ")?;
+    Some(wrote.split(' ').skip(1).flat_map(str::parse).collect())
 }
 
 /// Edges to a fresh decoder, by turns from a level.
@@ -265,12 +299,58 @@ fn whole(out: &mut impl Write) -> io::Result<()> {
     edge_table(out, "open 0 1 1000000", 0, &BROKEN, is_shown)?;
     out.write_all(GUARDED.as_bytes())?;
     edge_table(out, "guarded 0 1000000", 0, &BROKEN, is_shown)?;
+    box_table(out)?;
     out.write_all(REFUSALS.as_bytes())?;
     for (asked, calls) in REFUSED {
         let calls: Vec<String> = calls.iter().map(|call| call.to_string()).collect();
         writeln!(out, "{:<73}{}", asked, ask_last(&calls)?)?;
     }
     out.write_all(CLOSING.as_bytes())
+}
+
+/// An edge of a frame: its place in the box, its number from 1, its level, its duration.
+type BoxEdge = (usize, usize, usize, u32);
+
+/// Two frames, an edge of each by turns, the longer one first.
+fn box_edges() -> io::Result<Vec<BoxEdge>> {
+    let mut frames = Vec::new();
+    for call in BOX_FRAMES {
+        let answer = ask_last(&[call.to_string()])?;
+        frames.push(durations(&answer).expect("the frame is written"));
+    }
+    let mut edges = Vec::new();
+    for number in 0..frames[0].len() {
+        for (place, frame) in frames.iter().enumerate() {
+            let duration = frame.get(number);
+            edges.extend(duration.map(|&duration| (place, number + 1, (number + 1) % 2, duration)));
+        }
+    }
+    Ok(edges)
+}
+
+/// A line for each edge that reports something; then the rest that is asked.
+fn box_table(out: &mut impl Write) -> io::Result<()> {
+    let edges = box_edges()?;
+    let mut calls: Vec<String> = BOX_OPENED.map(String::from).to_vec();
+    for (place, _, level, duration) in &edges {
+        calls.push(format!("boxtotal {} {} {}", place, level, duration));
+    }
+    calls.extend(BOX_ASKED.map(|(_, call)| call.to_string()));
+    let answers = ask(&calls)?;
+    let (reports, later) = answers[BOX_OPENED.len()..].split_at(edges.len());
+    out.write_all(BOX.as_bytes())?;
+    for ((place, number, level, duration), report) in edges.iter().zip(reports) {
+        if report != "nothing" {
+            let level = ["fall", "rise"][*level];
+            write!(out, "{:>5} {:>4}  {} ", place, number, level)?;
+            writeln!(out, "{:>9}  {}", duration, report)?;
+        }
+    }
+    out.write_all(BOX_LATER.as_bytes())?;
+    for ((asked, _), answer) in BOX_ASKED.iter().zip(later) {
+        writeln!(out, "{:<73}{}", asked, answer)?;
+    }
+    Ok(())
 }
 
 /// A frame of each protocol, at its bounds but for so much.

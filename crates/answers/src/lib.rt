@@ -29,6 +29,10 @@ pub const COUNTER: u64 = 0x636F756E746572;
 
 pub const WAITS: u64 = 0x7761697473;
 
+pub const PLACE: u64 = 0x706C616365;
+
+pub const CLOSED: u64 = 0x636C6F736564;
+
 // Why a batch stopped, the edges used and the answers written.
 pub const ALL: u64 = 0x616C6C;
 
@@ -71,8 +75,6 @@ const REFUSED_3_NEEDS: u64 = 0x7265667573656420;
 const REFUSED_3_NEEDS_REST: u64 = 0x33206E65656473;
 
 const OPENED: u64 = 0x6F70656E6564;
-
-const PLACE: u64 = 0x706C616365;
 
 const NONE: u64 = 0x6E6F6E65;
 

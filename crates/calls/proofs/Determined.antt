@@ -9,6 +9,8 @@ use Rattle.calls.proofs.on_slots.answered as answered
 use Rattle.calls.proofs.on_slots.decoder_of as decoder-of
 use Rattle.calls.proofs.on_slots.batched as batched
 use Rattle.calls.proofs.call_text.put_answer as put-answer
+use Rattle.calls.proofs.counters.counting_in as counting-in
+use Rattle.calls.proofs.counters.counting as counting
 
 call-of-fixed : Fixed call-of.ended (λ M. call-of.clauses) call-of.Symbol.routine
 call-of-fixed M 𝓤 H 𝓜 𝓖 𝓡 = (call-of.Met.met 𝓤 H 𝓜 𝓖 𝓡, λ κs a. asks-nothing 𝓤, λ κs a g h r s v w. both one one alike)
@@ -34,3 +36,9 @@ encode-fixed M 𝓤 H 𝓜 𝓖 𝓡 =
 
 put-answer-fixed : Fixed put-answer.ended (λ M. put-answer.clauses) put-answer.Symbol.routine
 put-answer-fixed M 𝓤 H 𝓜 𝓖 𝓡 = (put-answer.Met.met 𝓤 H 𝓜 𝓖 𝓡, λ κs a. asks-nothing 𝓤, λ κs a g h r s v w. both (one & one) (one & one) alike-left)
+
+counting-in-fixed : Fixed counting-in.ended (λ M. counting-in.clauses) counting-in.Symbol.routine
+counting-in-fixed M 𝓤 H 𝓜 𝓖 𝓡 = (counting-in.Met.met 𝓤 H 𝓜 𝓖 𝓡, λ κs a. asks-nothing 𝓤, λ κs a g h r s v w. both one one alike)
+
+counting-fixed : Fixed counting.ended (λ M. counting.clauses) counting.Symbol.routine
+counting-fixed M 𝓤 H 𝓜 𝓖 𝓡 = (counting.Met.met 𝓤 H 𝓜 𝓖 𝓡, λ κs a. asks-nothing 𝓤, λ κs a g h r s v w. both one one alike)

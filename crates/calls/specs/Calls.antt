@@ -29,7 +29,7 @@ flag = upTo 1
 abbrev pub byte : Range
 byte = upTo 255
 
--- a protocol, a rate, a duration, a count or a bit's number
+-- a protocol, a rate, a duration, a count, a bit's number or a place of the box
 abbrev pub word32 : Range
 word32 = upTo (2 ^ 32 - 1)
 
@@ -82,6 +82,15 @@ calls =
     ∷ call ("w" ∷ "a" ∷ "i" ∷ "t" ∷ []) (waiting ∷ flag ∷ word32 ∷ [])
     ∷ call ("b" ∷ "a" ∷ "t" ∷ "c" ∷ "h" ∷ []) (slot ∷ column ∷ handed ∷ handed ∷ [])
     ∷ call ("g" ∷ "u" ∷ "a" ∷ "r" ∷ "d" ∷ "e" ∷ "d" ∷ []) (eitherSlot ∷ word32 ∷ [])
+    ∷ call ("b" ∷ "o" ∷ "x" ∷ []) (word32 ∷ [])
+    ∷ call ("b" ∷ "o" ∷ "x" ∷ "o" ∷ "p" ∷ "e" ∷ "n" ∷ []) (word32 ∷ [])
+    ∷ call ("b" ∷ "o" ∷ "x" ∷ "g" ∷ "u" ∷ "a" ∷ "r" ∷ "d" ∷ []) []
+    ∷ call ("b" ∷ "o" ∷ "x" ∷ "c" ∷ "l" ∷ "o" ∷ "s" ∷ "e" ∷ []) (word32 ∷ [])
+    ∷ call ("b" ∷ "o" ∷ "x" ∷ "e" ∷ "v" ∷ "e" ∷ "n" ∷ "t" ∷ []) (word32 ∷ flag ∷ word32 ∷ [])
+    ∷ call ("b" ∷ "o" ∷ "x" ∷ "t" ∷ "o" ∷ "t" ∷ "a" ∷ "l" ∷ []) (word32 ∷ flag ∷ word32 ∷ [])
+    ∷ call ("b" ∷ "o" ∷ "x" ∷ "s" ∷ "h" ∷ "o" ∷ "w" ∷ []) (word32 ∷ [])
+    ∷ call ("b" ∷ "o" ∷ "x" ∷ "r" ∷ "e" ∷ "s" ∷ "e" ∷ "t" ∷ []) (word32 ∷ [])
+    ∷ call ("b" ∷ "o" ∷ "x" ∷ "c" ∷ "o" ∷ "u" ∷ "n" ∷ "t" ∷ []) (word32 ∷ flag ∷ word32 ∷ [])
     ∷ []
 
 abbrev pub isIn : Range → ℕ → Bool

@@ -48,7 +48,7 @@ fn sbp_state(last: bool, low: u16) -> SbpState
 }
 
 // Of a counter that is narrower than the number, the low bits are set.
-fn counting_in(memory: Memory, last: bool, number: u32) -> Memory
+pub fn counting_in(memory: Memory, last: bool, number: u32) -> Memory
     ensures { λ r. ⌜ r ≡ countingIn memory last number ⌝ }
 {
     match memory {

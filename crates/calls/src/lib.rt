@@ -1,7 +1,7 @@
 // The calls of docs/CALLS.md, by their numbers from 0, and which of them a line is.
 mod batch;
 pub mod call_text;
-mod counters;
+pub mod counters;
 pub mod on_frames;
 pub mod on_slots;
 mod phrases;
@@ -53,8 +53,26 @@ pub const BATCH: usize = 18;
 
 pub const GUARDED: usize = 19;
 
+pub const BOX: usize = 20;
+
+pub const BOX_OPEN: usize = 21;
+
+pub const BOX_GUARD: usize = 22;
+
+pub const BOX_CLOSE: usize = 23;
+
+pub const BOX_EVENT: usize = 24;
+
+pub const BOX_TOTAL: usize = 25;
+
+pub const BOX_SHOW: usize = 26;
+
+pub const BOX_RESET: usize = 27;
+
+pub const BOX_COUNT: usize = 28;
+
 // No call.
-pub const NONE: usize = 20;
+pub const NONE: usize = 29;
 
 // The names, their letters as digits of base 256.
 const SPANS_NAME: u64 = 0x7370616E73;
@@ -97,7 +115,25 @@ const BATCH_NAME: u64 = 0x6261746368;
 
 const GUARDED_NAME: u64 = 0x67756172646564;
 
-const NAMES: [u64; 20] = [
+const BOX_NAME: u64 = 0x626F78;
+
+const BOX_OPEN_NAME: u64 = 0x626F786F70656E;
+
+const BOX_GUARD_NAME: u64 = 0x626F786775617264;
+
+const BOX_CLOSE_NAME: u64 = 0x626F78636C6F7365;
+
+const BOX_EVENT_NAME: u64 = 0x626F786576656E74;
+
+const BOX_TOTAL_NAME: u64 = 0x626F78746F74616C;
+
+const BOX_SHOW_NAME: u64 = 0x626F7873686F77;
+
+const BOX_RESET_NAME: u64 = 0x626F787265736574;
+
+const BOX_COUNT_NAME: u64 = 0x626F78636F756E74;
+
+const NAMES: [u64; 29] = [
     SPANS_NAME,
     LOOKUP_NAME,
     ENCODE_NAME,
@@ -118,17 +154,56 @@ const NAMES: [u64; 20] = [
     WAIT_NAME,
     BATCH_NAME,
     GUARDED_NAME,
+    BOX_NAME,
+    BOX_OPEN_NAME,
+    BOX_GUARD_NAME,
+    BOX_CLOSE_NAME,
+    BOX_EVENT_NAME,
+    BOX_TOTAL_NAME,
+    BOX_SHOW_NAME,
+    BOX_RESET_NAME,
+    BOX_COUNT_NAME,
 ];
 
 // How many numbers follow the name.
-const COUNTS: [usize; 20] = [2, 3, 7, 3, 3, 3, 3, 1, 1, 3, 3, 2, 3, 1, 7, 5, 3, 3, 4, 2];
+const COUNTS: [usize; 29] = [
+    2,
+    3,
+    7,
+    3,
+    3,
+    3,
+    3,
+    1,
+    1,
+    3,
+    3,
+    2,
+    3,
+    1,
+    7,
+    5,
+    3,
+    3,
+    4,
+    2,
+    1,
+    1,
+    0,
+    1,
+    3,
+    3,
+    1,
+    1,
+    3,
+];
 
 const LAST: u64 = 0xFFFFFFFF;
 
 const ANY: u64 = 0xFFFFFFFFFFFFFFFF;
 
 // The largest that each number may be; whatever stands after the numbers is not asked.
-const MOST: [[u64; 7]; 20] = [
+const MOST: [[u64; 7]; 29] = [
     [LAST, LAST, ANY, ANY, ANY, ANY, ANY],
     [LAST, LAST, ANY, ANY, ANY, ANY, ANY],
     [LAST, LAST, 255, 255, 255, 1, 100],
@@ -149,24 +224,33 @@ const MOST: [[u64; 7]; 20] = [
     [63, 1, LAST, ANY, ANY, ANY, ANY],
     [7, 8, 64, 64, ANY, ANY, ANY],
     [15, LAST, ANY, ANY, ANY, ANY, ANY],
+    [LAST, ANY, ANY, ANY, ANY, ANY, ANY],
+    [LAST, ANY, ANY, ANY, ANY, ANY, ANY],
+    [ANY, ANY, ANY, ANY, ANY, ANY, ANY],
+    [LAST, ANY, ANY, ANY, ANY, ANY, ANY],
+    [LAST, 1, LAST, ANY, ANY, ANY, ANY],
+    [LAST, 1, LAST, ANY, ANY, ANY, ANY],
+    [LAST, ANY, ANY, ANY, ANY, ANY, ANY],
+    [LAST, ANY, ANY, ANY, ANY, ANY, ANY],
+    [LAST, 1, LAST, ANY, ANY, ANY, ANY],
 ];
 
 fn name_at(call: usize) -> u64
-    requires { ⌜ call < 20 ⌝ }
+    requires { ⌜ call < 29 ⌝ }
     ensures { λ r. ⌜ r ≡ callAt call .name ⌝ }
 {
     NAMES[call]
 }
 
 fn count_at(call: usize) -> usize
-    requires { ⌜ call < 20 ⌝ }
+    requires { ⌜ call < 29 ⌝ }
     ensures { λ r. ⌜ (r ≡ length (callAt call .numbers)) × (r ≤ 7) ⌝ }
 {
     COUNTS[call]
 }
 
 fn most_at(call: usize, place: usize) -> u64
-    requires { ⌜ (call < 20) × (place < 7) ⌝ }
+    requires { ⌜ (call < 29) × (place < 7) ⌝ }
     ensures { λ r. ⌜ r ≡ rangeAt call place .1 ⌝ }
 {
     MOST[call][place]
@@ -174,14 +258,14 @@ fn most_at(call: usize, place: usize) -> u64
 
 // A poll is of one level at least; every other number may be 0.
 fn least_at(call: usize, place: usize) -> u64
-    requires { ⌜ (call < 20) × (place < 7) ⌝ }
+    requires { ⌜ (call < 29) × (place < 7) ⌝ }
     ensures { λ r. ⌜ r ≡ rangeAt call place .0 ⌝ }
 {
     if (call == POLL) & (place == 2) { 1 } else { 0 }
 }
 
 fn is_in(call: usize, place: usize, x: u64) -> bool
-    requires { ⌜ (call < 20) × (place < 7) ⌝ }
+    requires { ⌜ (call < 29) × (place < 7) ⌝ }
     ensures { λ r. ⌜ r ≡ isIn (rangeAt call place) x ⌝ }
 {
     (least_at(call, place) <= x) & (x <= most_at(call, place))
@@ -189,7 +273,7 @@ fn is_in(call: usize, place: usize, x: u64) -> bool
 
 // The numbers of a call are in their ranges.
 fn are_in(call: usize, n: &[u64; 8]) -> bool
-    requires { ⌜ call < 20 ⌝ }
+    requires { ⌜ call < 29 ⌝ }
     ensures { λ r. ⌜ r ≡ areFrom 0 (callAt call .numbers) (now (n .entry)) ⌝ }
 {
     let count = count_at(call);
@@ -205,14 +289,14 @@ fn are_in(call: usize, n: &[u64; 8]) -> bool
 
 // The line is a name and so many numbers.
 fn is_named(line: Line, call: usize) -> bool
-    requires { ⌜ call < 20 ⌝ }
+    requires { ⌜ call < 29 ⌝ }
     ensures { λ r. ⌜ r ≡ isNamed line (callAt call) ⌝ }
 {
     line.whole & (line.name == name_at(call)) & (line.count == count_at(call))
 }
 
 fn is_call(line: Line, n: &[u64; 8], call: usize) -> bool
-    requires { ⌜ call < 20 ⌝ }
+    requires { ⌜ call < 29 ⌝ }
     ensures { λ r. ⌜ r ≡ isCall line (now (n .entry)) (callAt call) ⌝ }
 {
     is_named(line, call) && are_in(call, n)
@@ -223,7 +307,7 @@ pub fn call_of(line: Line, n: &[u64; 8]) -> usize
     ensures { λ r. ⌜ r ≡ callOf line (now (n .entry)) ⌝ }
 {
     let mut call: usize = 0;
-    while call < 20 {
+    while call < 29 {
         if is_call(line, n, call) {
             return call;
         }

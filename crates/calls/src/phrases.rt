@@ -1,4 +1,5 @@
-// What a call that asks no slot answers, where that is one phrase. Spans, encode, closed and measure have an empty one here: the program puts what they answer. So has batch, which `batched` answers.
+// What a call that asks no slot answers, where that is one phrase. Spans, encode, closed and measure have an empty one here: the program puts what they answer.
+// So have batch, which `batched` answers, and the calls on the box, which `box_calls` answers.
 use answers::Phrase;
 use answers::is_taken;
 use answers::not_understood;
@@ -47,7 +48,7 @@ pub fn phrase_of(call: usize, n: &[u64; 8]) -> Phrase
     if call == crate::WAIT {
         return text(answers::WAITS, 0);
     }
-    if (call < crate::OPEN) | (crate::CLOSED <= call) & (call <= crate::BATCH) {
+    if (call < crate::OPEN) | (crate::CLOSED <= call) & (call <= crate::BOX_COUNT) {
         return text(0, 0);
     }
     not_understood()

@@ -5,6 +5,7 @@ use Rattle.protocols.proofs.encoder.encode as encode
 use Rattle.protocols.proofs.encoder.encode_by as encode-by
 use Rattle.protocols.proofs.encoder.encode_closed_by as encode-closed-by
 use Rattle.protocols.proofs.decoder.past_end as past-end
+use Rattle.protocols.proofs.decoder.fresh_of as fresh-of
 use Rattle.protocols.proofs.decoder.event_in as event-in
 use Rattle.protocols.proofs.decoder.command_in as command-in
 use Rattle.protocols.proofs.decoder.reset_in as reset-in
@@ -30,6 +31,9 @@ encode-closed-by-fixed M 𝓤 H 𝓜 𝓖 𝓡 =
 
 past-end-fixed : Fixed past-end.ended (λ M. past-end.clauses) past-end.Symbol.routine
 past-end-fixed M 𝓤 H 𝓜 𝓖 𝓡 = (past-end.Met.met 𝓤 H 𝓜 𝓖 𝓡, λ κs a. asks-nothing 𝓤, λ κs a g h r s v w. both one one alike)
+
+fresh-of-fixed : Fixed fresh-of.ended (λ M. fresh-of.clauses) fresh-of.Symbol.routine
+fresh-of-fixed M 𝓤 H 𝓜 𝓖 𝓡 = (fresh-of.Met.met 𝓤 H 𝓜 𝓖 𝓡, λ κs a. asks-nothing 𝓤, λ κs a g h r s v w. both one one alike)
 
 event-in-fixed : Fixed event-in.ended (λ M. event-in.clauses) event-in.Symbol.routine
 event-in-fixed M 𝓤 H 𝓜 𝓖 𝓡 = (event-in.Met.met 𝓤 H 𝓜 𝓖 𝓡, λ κs a. asks-nothing 𝓤, λ κs a g h r s v w. both one one alike)

@@ -95,7 +95,7 @@ pub fn past_end(memory: Memory) -> bool
 }
 
 // What a new decoder of a protocol remembers; with a number that is refused, NEC's.
-fn fresh_of(protocol: u32) -> Memory
+pub fn fresh_of(protocol: u32) -> Memory
     ensures { λ r. ⌜ r ≡ freshOf protocol ⌝ }
 {
     match protocol {

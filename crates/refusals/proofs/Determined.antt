@@ -7,6 +7,7 @@ use Rattle.refusals.proofs.closed_taken as closed-taken
 use Rattle.refusals.proofs.rate_taken as rate-taken
 use Rattle.refusals.proofs.of_build as of-build
 use Rattle.refusals.proofs.of_lists as of-lists
+use Rattle.refusals.proofs.of_open as of-open
 
 is-within-fixed : Fixed is-within.ended (λ M. is-within.clauses) is-within.Symbol.routine
 is-within-fixed M 𝓤 H 𝓜 𝓖 𝓡 = (is-within.Met.met 𝓤 H 𝓜 𝓖 𝓡, λ κs a. asks-nothing 𝓤, λ κs a g h r s v w. both one one alike)
@@ -28,3 +29,6 @@ of-build-fixed M 𝓤 H 𝓜 𝓖 𝓡 = (of-build.Met.met 𝓤 H 𝓜 𝓖 𝓡
 
 of-lists-fixed : Fixed of-lists.ended (λ M. of-lists.clauses) of-lists.Symbol.routine
 of-lists-fixed M 𝓤 H 𝓜 𝓖 𝓡 = (of-lists.Met.met 𝓤 H 𝓜 𝓖 𝓡, λ κs a. asks-nothing 𝓤, λ κs a g h r s v w. both one one alike)
+
+of-open-fixed : Fixed of-open.ended (λ M. of-open.clauses) of-open.Symbol.routine
+of-open-fixed M 𝓤 H 𝓜 𝓖 𝓡 = (of-open.Met.met 𝓤 H 𝓜 𝓖 𝓡, λ κs a. asks-nothing 𝓤, λ κs a g h r s v w. both one one alike)

@@ -1,36 +1,44 @@
--- The refusal number of a call says which way the call goes: 0 is taken, and any other number is the answer. By cases on the five tests. Assumes nothing.
+-- The refusal number of a call says which way the call goes: 0 is taken, and any other number is the answer. By cases on the seven tests. Assumes nothing.
 use mathlib.Core.Path.{_≡_, refl, sym, ap, _∙_}
 use mathlib.Core.Bool.{Bool, true, false, cond}
 use Prim.Native.Nat.{ℕ}
 use native.Mathlib.Omega.{arith}
 use lib.Dec.{eqb}
 use borrow.Author.Tests.{eqb-true, ne-eqb}
-use Rattle.refusals.specs.Refusals.{none, badProtocol, badRate, pastEnd, unlikeLists, shortBuffer, Tests, passes, inOrder, buildTests, listTests, protocolTaken, rateTaken}
+use Rattle.refusals.specs.Refusals.{none, badProtocol, badRate, notOpen, allOpen, pastEnd, unlikeLists, shortBuffer, Tests, passes, inOrder, buildTests, listTests, protocolTaken, rateTaken}
 
 -- the number, by the outcomes of the tests
-abbrev number : (protocol rate counter lists room : Bool) → ℕ
-number protocol rate counter lists room =
-    cond protocol (cond rate (cond counter (cond lists (cond room none shortBuffer) unlikeLists) pastEnd) badRate) badProtocol
+abbrev number : (protocol rate place free counter lists room : Bool) → ℕ
+number protocol rate place free counter lists room =
+    cond protocol
+    (cond rate (cond place (cond free (cond counter (cond lists (cond room none shortBuffer) unlikeLists) pastEnd) allOpen) notOpen) badRate)
+    badProtocol
 
 module _ {Answer : Type 0} (refused : ℕ → Answer) (taken : Answer) where
   answers
-      : (protocol rate counter lists room : Bool)
+      : (protocol rate place free counter lists room : Bool)
       → cond protocol
-      (cond rate (cond counter (cond lists (cond room taken (refused shortBuffer)) (refused unlikeLists)) (refused pastEnd)) (refused badRate))
+      (cond rate
+      (cond place
+      (cond free (cond counter (cond lists (cond room taken (refused shortBuffer)) (refused unlikeLists)) (refused pastEnd)) (refused allOpen))
+      (refused notOpen))
+      (refused badRate))
       (refused badProtocol)
-      ≡ cond (eqb (number protocol rate counter lists room) 0) taken (refused (number protocol rate counter lists room))
-  answers true true true true true = refl
-  answers true true true true false = refl
-  answers true true true false room = refl
-  answers true true false lists room = refl
-  answers true false counter lists room = refl
-  answers false rate counter lists room = refl
+      ≡ cond (eqb (number protocol rate place free counter lists room) 0) taken (refused (number protocol rate place free counter lists room))
+  answers true true true true true true true = refl
+  answers true true true true true true false = refl
+  answers true true true true true false room = refl
+  answers true true true true false lists room = refl
+  answers true true true false counter lists room = refl
+  answers true true false free counter lists room = refl
+  answers true false place free counter lists room = refl
+  answers false rate place free counter lists room = refl
 
   -- what is answered, from the number
   pub by-number
       : (tests : Tests) {n : ℕ} → n ≡ inOrder tests (λ number. number) none → inOrder tests refused taken ≡ cond (eqb n 0) taken (refused n)
   by-number tests e =
-      answers (passes tests badProtocol) (passes tests badRate) (passes tests pastEnd) (passes tests unlikeLists) (passes tests shortBuffer)
+      answers (passes tests badProtocol) (passes tests badRate) (passes tests notOpen) (passes tests allOpen) (passes tests pastEnd) (passes tests unlikeLists) (passes tests shortBuffer)
       ∙ ap (λ (n : ℕ). cond (eqb n 0) taken (refused n)) (sym e)
 
   pub taken-by : (tests : Tests) {n : ℕ} → n ≡ inOrder tests (λ number. number) none → n ≡ 0 → taken ≡ inOrder tests refused taken

@@ -16,6 +16,14 @@ badProtocol = 2
 abbrev pub badRate : ℕ
 badRate = 1
 
+-- document 02, request 06, "tested after 1 and before 4": "the place named is not open"
+abbrev pub notOpen : ℕ
+notOpen = 8
+
+-- "all eight are open"
+abbrev pub allOpen : ℕ
+allOpen = 9
+
 -- "bit counter above 31 (NEC), 12 (RC5), ..": what a decoder remembers tells
 abbrev pub pastEnd : ℕ
 pastEnd = 4
@@ -59,11 +67,15 @@ abbrev pub inOrder : {Answer : Type 0} → Tests → (ℕ → Answer) → Answer
 inOrder tests refused taken =
     cond (passes tests badProtocol)
     (cond (passes tests badRate)
+    (cond (passes tests notOpen)
+    (cond (passes tests allOpen)
     (cond (passes tests pastEnd)
     (cond (passes tests unlikeLists)
     (cond (passes tests shortBuffer) taken (refused shortBuffer))
     (refused unlikeLists))
     (refused pastEnd))
+    (refused allOpen))
+    (refused notOpen))
     (refused badRate))
     (refused badProtocol)
 
@@ -82,3 +94,11 @@ encodeTests taken rate room length = (badProtocol, taken) ∷ frameTests rate ro
 -- edges are handed over as two lists of so many levels and durations, to a decoder that is not past its end, or is
 abbrev pub listTests : Bool → (levels durations : ℕ) → Tests
 listTests inReach levels durations = (pastEnd, inReach) ∷ (unlikeLists, eqb levels durations) ∷ []
+
+-- a receiver is opened, of a protocol that is taken, or not, where there is a free place, or none
+abbrev pub openTests : (taken free : Bool) → Tests
+openTests taken free = (badProtocol, taken) ∷ (allOpen, free) ∷ []
+
+-- a place is named, which is open, or not
+abbrev pub placeTests : Bool → Tests
+placeTests isOpen = (notOpen, isOpen) ∷ []

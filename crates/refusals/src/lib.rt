@@ -1,7 +1,7 @@
 // Document 01, "Refusal numbers": the numbers by name, which protocol numbers and rates are taken, and the order of the tests.
 ghost use mathlib.Core.Path.{_≡_};
 ghost use mathlib.Core.Bool.{not};
-ghost use Rattle.refusals.specs.Refusals.{none, within, protocolTaken, encodeTaken, closedTaken, rateTaken, inOrder, buildTests, listTests};
+ghost use Rattle.refusals.specs.Refusals.{none, within, protocolTaken, encodeTaken, closedTaken, rateTaken, inOrder, buildTests, listTests, openTests};
 
 // Nothing is refused.
 pub const NONE: u32 = 0;
@@ -17,6 +17,12 @@ pub const SHORT_BUFFER: u32 = 3;
 
 // A decoder's bit counter is past its end.
 pub const PAST_END: u32 = 4;
+
+// Of eight receivers in one record, the place named is not open.
+pub const NOT_OPEN: u32 = 8;
+
+// All eight places are open.
+pub const ALL_OPEN: u32 = 9;
 
 // Two lists that differ in length.
 pub const UNLIKE_LISTS: u32 = 5;
@@ -84,6 +90,19 @@ pub fn of_lists(past_end: bool, levels: usize, durations: usize) -> u32
     }
     if levels != durations {
         return UNLIKE_LISTS;
+    }
+    NONE
+}
+
+// The refusal of a receiver that is opened in a record of eight.
+pub fn of_open(bad_protocol: bool, all_open: bool) -> u32
+    ensures { λ r. ⌜ r ≡ inOrder (openTests (not «bad_protocol») (not «all_open»)) (λ number. number) none ⌝ }
+{
+    if bad_protocol {
+        return BAD_PROTOCOL;
+    }
+    if all_open {
+        return ALL_OPEN;
     }
     NONE
 }

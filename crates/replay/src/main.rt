@@ -4,20 +4,23 @@ mod on_batches;
 mod on_frames;
 mod on_spans;
 
+use box_calls::BoxAnswer;
+use box_calls::boxed;
 use calls::call_of;
 use calls::call_text::put_answer;
 use calls::on_slots::Parts;
-use calls::on_slots::all_closed;
 use libc::STDERR_FILENO;
 use libc::STDIN_FILENO;
 use libc::STDOUT_FILENO;
 use on_batches::Columns;
 use on_batches::none_waits;
 use on_batches::put_batched;
+use on_batches::started;
 use on_batches::stepped;
 use on_batches::waiting_after;
 use on_frames::put_encode_call;
 use on_spans::put_spans_call;
+use receivers::Receivers;
 use text::put;
 use text::words::Line;
 use text::words::fresh;
@@ -129,11 +132,19 @@ fn read_line(buf: &mut [u8], start: Input, numbers: &mut [u64; 8]) -> Reading {
     Reading { line, input }
 }
 
-// To the end of the input, or until the output takes no more.
+// No call was made: the box is new.
+fn new_box(parts: Parts) -> BoxAnswer {
+    let made = Receivers::new(1000000);
+    let receivers = made.receivers;
+    BoxAnswer { parts, receivers }
+}
+
+// To the end of the input, or until the output takes no more. Each value that holds a receiver makes the proof longer: so the slots stay in the last step, and the box in its last answer.
 fn read_all(text: &mut [u8], numbers: &mut [u64; 8], buf: &mut [u8]) -> usize {
     let mut at: usize = 0;
-    let mut slots = all_closed();
     let mut waiting = none_waits();
+    let mut step = started();
+    let mut answer = new_box(step.slots.parts);
     let mut input = Input {
         at: 0,
         end: 0,
@@ -151,11 +162,9 @@ fn read_all(text: &mut [u8], numbers: &mut [u64; 8], buf: &mut [u8]) -> usize {
         }
         let call = call_of(line, numbers);
         waiting = waiting_after(call, numbers, waiting);
-        let one = stepped(call, numbers, slots, waiting);
-        slots = one.slots;
-        let parts = slots.parts;
-        let columns = one.columns;
-        at = put_line(text, at, call, numbers, parts, columns);
+        step = stepped(call, numbers, step.slots, waiting);
+        answer = boxed(call, numbers, answer.receivers, step.slots.parts);
+        at = put_line(text, at, call, numbers, answer.parts, step.columns);
         if (text.len() < at) | input.is_end {
             return at;
         }

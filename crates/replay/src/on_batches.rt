@@ -8,6 +8,7 @@ use batches::batch;
 use calls::call_text::put_answer;
 use calls::on_slots::Parts;
 use calls::on_slots::Slots;
+use calls::on_slots::all_closed;
 use calls::on_slots::answered;
 use calls::on_slots::batched;
 use calls::on_slots::decoder_of;
@@ -96,6 +97,14 @@ fn marked() -> Columns {
         edges: EDGE_MARKS,
         kinds: KIND_MARKS,
         values: VALUE_MARKS,
+    }
+}
+
+// No call was made.
+pub fn started() -> Step {
+    Step {
+        slots: all_closed(),
+        columns: marked(),
     }
 }
 

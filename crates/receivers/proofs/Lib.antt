@@ -1,0 +1,16 @@
+pub mod Lowest
+pub mod Stored
+pub mod Places
+pub mod Edges
+pub mod Lawful
+pub mod Lone
+pub mod Determined
+pub mod Valued
+pub mod Elements
+pub mod Arrays
+pub mod Record
+pub mod Values
+pub mod Columns
+pub mod Asked
+pub mod LentPlace
+pub mod LentEdges
