@@ -132,8 +132,16 @@ function read_item(w, type,   is_public) {
     else refuse(w)
 }
 
-function read_impl(   w, type) {
+# Of a type, or of one that holds a reference: `impl<'a> Type<'a>`.
+function read_impl(   w, type, lifetime) {
     type = word()
+    if (type == "<") {
+        lifetime = word()
+        if (lifetime !~ /^'[a-z]+$/) return refuse(lifetime)
+        if (!follows(">")) return
+        type = word()
+        if (!follows("< " lifetime " >")) return
+    }
     if (!follows("{")) return
     while ((w = word()) != "}" && !lost) read_item(w, type ".")
 }

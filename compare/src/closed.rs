@@ -1,11 +1,11 @@
-//! Outputs that take nothing: replay and tools/tour must end by themselves. Where no signal ends
-//! them they say that answers are lost; nothing else is said.
+//! Outputs that take nothing: replay, mode2_edges and tools/tour must end by themselves. Where no
+//! signal ends them they say that answers are lost; nothing else is said.
 
 use std::ffi::OsString;
 use std::io;
 
 use crate::ended::{End, Ended, Input, Output, Program};
-use crate::mutated::{show, Part};
+use crate::mutated::{show, Part, Programs};
 use crate::mutated_lines::recorded_lines;
 
 /// The end by the signal that a pipe without a reader sends.
@@ -35,11 +35,11 @@ static CASES: [(&str, Output, Way); 5] = [
 ];
 
 /// How the runs of each case ended, a line each.
-pub fn run(tour: &Program, replay: &Program, part: &mut Part) -> io::Result<Vec<String>> {
+pub fn run(programs: &Programs, part: &mut Part) -> io::Result<Vec<String>> {
     let mut told = Vec::new();
     for (name, output, way) in CASES {
         let mut ends = Vec::new();
-        for run in runs(tour, replay)? {
+        for run in runs(programs)? {
             let wanted = run.wanted(way);
             let ended = run.program.run(&run.words, run.input, output)?;
             let input = format!("{}, {}", run.name, name);
@@ -62,27 +62,27 @@ struct Run<'a> {
     lost: Option<(i32, &'static str)>,
 }
 
-/// The answers to the many calls do not fit a pipe.
-fn runs<'a>(tour: &'a Program, replay: &'a Program) -> io::Result<Vec<Run<'a>>> {
+/// The answers to the many calls do not fit a pipe, nor do the edges of the many lines.
+fn runs<'a>(programs: &'a Programs) -> io::Result<Vec<Run<'a>>> {
     let call = b"lookup 3 1000000 1989\n".to_vec();
     let calls = [recorded_lines()?.join(&b'\n'), b"\n".to_vec()].concat();
     let endless = Input::Endless(call.repeat(1000));
     let lost = Some((0, "replay: the output takes no more\n"));
     let answers = |name, input, lost| Run {
         name,
-        program: replay,
+        program: &programs.replay,
         words: Vec::new(),
         input,
         lost,
     };
     let shows = |name, words: &[&str]| Run {
         name,
-        program: tour,
+        program: &programs.tour,
         words: words.iter().map(OsString::from).collect(),
         input: Input::Once(Vec::new()),
         lost: Some((1, "tour: the output takes no more\n")),
     };
-    Ok(vec![
+    let mut runs = vec![
         answers("replay, no input", Input::Once(Vec::new()), None),
         answers("replay, one call", Input::Once(call), lost),
         answers("replay, many calls", Input::Once(calls.repeat(3)), lost),
@@ -90,7 +90,34 @@ fn runs<'a>(tour: &'a Program, replay: &'a Program) -> io::Result<Vec<Run<'a>>> 
         shows("tour", &[]),
         shows("tour spans", &["spans"]),
         shows("tour help", &["help"]),
-    ])
+        shows("tour mode2", &["mode2", "2", "5", "12"]),
+    ];
+    runs.extend(edge_runs(programs));
+    Ok(runs)
+}
+
+/// It always writes: at the end of the input, that this is the end.
+fn edge_runs<'a>(programs: &'a Programs) -> [Run<'a>; 5] {
+    let lines = b"pulse 889\nspace 889\n".repeat(1000);
+    let many = lines.repeat(60);
+    let refused = [&many[..], b"timeout 889\n"].concat();
+    [
+        ("mode2_edges, no input", Input::Once(Vec::new())),
+        (
+            "mode2_edges, one line",
+            Input::Once(b"pulse 889\n".to_vec()),
+        ),
+        ("mode2_edges, many lines", Input::Once(many)),
+        ("mode2_edges, the last refused", Input::Once(refused)),
+        ("mode2_edges, lines without end", Input::Endless(lines)),
+    ]
+    .map(|(name, input)| Run {
+        name,
+        program: &programs.edges,
+        words: Vec::new(),
+        input,
+        lost: Some((0, "mode2_edges: the output takes no more\n")),
+    })
 }
 
 impl Run<'_> {

@@ -46,14 +46,14 @@ module _ (line : Line) (ns : List ℕ) where
   From i = firstIn line ns (drop i calls) i
 
   module _ (i : ℕ) (inv : From i ≡ callOf line ns) where
-    pub call-is : i < 29 → isCall line ns (callAt i) ≡ true → i ≡ callOf line ns
+    pub call-is : i < 30 → isCall line ns (callAt i) ≡ true → i ≡ callOf line ns
     call-is h e = sym (next-call calls i i h ∙ simp e) ∙ inv
 
-    pub call-is-not : i < 29 → isCall line ns (callAt i) ≡ false → From (i + 1) ≡ callOf line ns
+    pub call-is-not : i < 30 → isCall line ns (callAt i) ≡ false → From (i + 1) ≡ callOf line ns
     call-is-not h e =
         ap (λ (k : ℕ). firstIn line ns (drop k calls) (i + 1)) (add-one i) ∙ sym (next-call calls i i h ∙ simp e) ∙ inv
 
-    pub no-call : i ≡ 29 → 29 ≡ callOf line ns
+    pub no-call : i ≡ 30 → 30 ≡ callOf line ns
     unfolding firstIn
     no-call e = sym (simp e) ∙ inv
 

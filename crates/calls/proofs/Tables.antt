@@ -36,22 +36,22 @@ mosts =
 abbrev least : ℕ → ℕ → ℕ
 least call place = cond (eqb call 10 && eqb place 2) 1 0
 
-pub name-is : (call : ℕ) → call < 29 → getD names call 0 ≡ callAt call .name
-name-is call h = eqb-true _ _ (below (λ (k : ℕ). eqb (getD names k 0) (callAt k .name)) 29 refl call h)
+pub name-is : (call : ℕ) → call < 30 → getD names call 0 ≡ callAt call .name
+name-is call h = eqb-true _ _ (below (λ (k : ℕ). eqb (getD names k 0) (callAt k .name)) 30 refl call h)
 
-pub count-is : (call : ℕ) → call < 29 → getD counts call 0 ≡ length (callAt call .numbers)
-count-is call h = eqb-true _ _ (below (λ (k : ℕ). eqb (getD counts k 0) (length (callAt k .numbers))) 29 refl call h)
+pub count-is : (call : ℕ) → call < 30 → getD counts call 0 ≡ length (callAt call .numbers)
+count-is call h = eqb-true _ _ (below (λ (k : ℕ). eqb (getD counts k 0) (length (callAt k .numbers))) 30 refl call h)
 
-pub count-le : (call : ℕ) → call < 29 → getD counts call 0 ≤ 7
-count-le call h = leb-true _ _ (below (λ (k : ℕ). leb (getD counts k 0) 7) 29 refl call h)
+pub count-le : (call : ℕ) → call < 30 → getD counts call 0 ≤ 7
+count-le call h = leb-true _ _ (below (λ (k : ℕ). leb (getD counts k 0) 7) 30 refl call h)
 
-module _ (call place : ℕ) (h : call < 29) (k : place < 7) where
+module _ (call place : ℕ) (h : call < 30) (k : place < 7) where
   pub most-is : getD (getD mosts call []) place 0 ≡ rangeAt call place .1
   most-is =
       let same : ℕ → ℕ → Bool = λ (i j : ℕ). eqb (getD (getD mosts i []) j 0) (rangeAt i j .1) in
-      eqb-true _ _ (below (same call) 7 (below (λ (i : ℕ). allBelow (same i) 7) 29 refl call h) place k)
+      eqb-true _ _ (below (same call) 7 (below (λ (i : ℕ). allBelow (same i) 7) 30 refl call h) place k)
 
   pub least-is : least call place ≡ rangeAt call place .0
   least-is =
       let same : ℕ → ℕ → Bool = λ (i j : ℕ). eqb (least i j) (rangeAt i j .0) in
-      eqb-true _ _ (below (same call) 7 (below (λ (i : ℕ). allBelow (same i) 7) 29 refl call h) place k)
+      eqb-true _ _ (below (same call) 7 (below (λ (i : ℕ). allBelow (same i) 7) 30 refl call h) place k)

@@ -22,7 +22,7 @@ slot = upTo 7
 abbrev pub eitherSlot : Range
 eitherSlot = upTo 15
 
--- a level, a toggle, or which of two counters
+-- a level, a toggle, which of two counters, or whether a frame is closed
 abbrev pub flag : Range
 flag = upTo 1
 
@@ -38,6 +38,10 @@ word64 = upTo (2 ^ 64 - 1)
 
 abbrev pub room : Range
 room = upTo 100
+
+-- the bytes of a text that is lent
+abbrev pub textRoom : Range
+textRoom = upTo 1000
 
 -- a place of the lists of edges that wait; how many are handed over; the places of a column
 abbrev pub waiting : Range
@@ -91,6 +95,7 @@ calls =
     ∷ call ("b" ∷ "o" ∷ "x" ∷ "s" ∷ "h" ∷ "o" ∷ "w" ∷ []) (word32 ∷ [])
     ∷ call ("b" ∷ "o" ∷ "x" ∷ "r" ∷ "e" ∷ "s" ∷ "e" ∷ "t" ∷ []) (word32 ∷ [])
     ∷ call ("b" ∷ "o" ∷ "x" ∷ "c" ∷ "o" ∷ "u" ∷ "n" ∷ "t" ∷ []) (word32 ∷ flag ∷ word32 ∷ [])
+    ∷ call ("w" ∷ "r" ∷ "i" ∷ "t" ∷ "e" ∷ []) (word32 ∷ byte ∷ byte ∷ byte ∷ flag ∷ flag ∷ textRoom ∷ [])
     ∷ []
 
 abbrev pub isIn : Range → ℕ → Bool

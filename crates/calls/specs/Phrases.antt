@@ -21,10 +21,10 @@ lookupPhrase protocol rate duration =
 abbrev pub boundsOf : ℕ → Phrase
 boundsOf protocol = cond (encodeTaken protocol) (boundsPhrase (leastSilence protocol) (mostDeviation protocol)) (refusedPhrase badProtocol)
 
--- of a call that asks no slot. What spans, encode, closed and measure answer is more than one phrase: here they have an empty one. So have batch, which `batchedAt` answers,
+-- of a call that asks no slot. What spans, encode, closed, measure and write answer is more than one phrase: here they have an empty one. So have batch, which `batchedAt` answers,
 -- and the calls on the box, which `box_calls` answers
 unfoldable pub phraseOf : ℕ → List ℕ → Phrase
 phraseOf call n =
     cond (eqb call 1) (lookupPhrase (getD n 0 0 % 2 ^ 32) (getD n 1 0 % 2 ^ 32) (getD n 2 0))
     (cond (eqb call 13) (boundsOf (getD n 0 0 % 2 ^ 32))
-    (cond (eqb call 17) (textOf (word ("w" ∷ "a" ∷ "i" ∷ "t" ∷ "s" ∷ [])) 0) (cond (ltb call 3 || leb 15 call && leb call 28) (textOf 0 0) notUnderstood)))
+    (cond (eqb call 17) (textOf (word ("w" ∷ "a" ∷ "i" ∷ "t" ∷ "s" ∷ [])) 0) (cond (ltb call 3 || leb 15 call && leb call 29) (textOf 0 0) notUnderstood)))

@@ -71,8 +71,10 @@ pub const BOX_RESET: usize = 27;
 
 pub const BOX_COUNT: usize = 28;
 
+pub const WRITE: usize = 29;
+
 // No call.
-pub const NONE: usize = 29;
+pub const NONE: usize = 30;
 
 // The names, their letters as digits of base 256.
 const SPANS_NAME: u64 = 0x7370616E73;
@@ -133,7 +135,9 @@ const BOX_RESET_NAME: u64 = 0x626F787265736574;
 
 const BOX_COUNT_NAME: u64 = 0x626F78636F756E74;
 
-const NAMES: [u64; 29] = [
+const WRITE_NAME: u64 = 0x7772697465;
+
+const NAMES: [u64; 30] = [
     SPANS_NAME,
     LOOKUP_NAME,
     ENCODE_NAME,
@@ -163,10 +167,11 @@ const NAMES: [u64; 29] = [
     BOX_SHOW_NAME,
     BOX_RESET_NAME,
     BOX_COUNT_NAME,
+    WRITE_NAME,
 ];
 
 // How many numbers follow the name.
-const COUNTS: [usize; 29] = [
+const COUNTS: [usize; 30] = [
     2,
     3,
     7,
@@ -196,6 +201,7 @@ const COUNTS: [usize; 29] = [
     1,
     1,
     3,
+    7,
 ];
 
 const LAST: u64 = 0xFFFFFFFF;
@@ -203,7 +209,7 @@ const LAST: u64 = 0xFFFFFFFF;
 const ANY: u64 = 0xFFFFFFFFFFFFFFFF;
 
 // The largest that each number may be; whatever stands after the numbers is not asked.
-const MOST: [[u64; 7]; 29] = [
+const MOST: [[u64; 7]; 30] = [
     [LAST, LAST, ANY, ANY, ANY, ANY, ANY],
     [LAST, LAST, ANY, ANY, ANY, ANY, ANY],
     [LAST, LAST, 255, 255, 255, 1, 100],
@@ -233,24 +239,25 @@ const MOST: [[u64; 7]; 29] = [
     [LAST, ANY, ANY, ANY, ANY, ANY, ANY],
     [LAST, ANY, ANY, ANY, ANY, ANY, ANY],
     [LAST, 1, LAST, ANY, ANY, ANY, ANY],
+    [LAST, 255, 255, 255, 1, 1, 1000],
 ];
 
 fn name_at(call: usize) -> u64
-    requires { ⌜ call < 29 ⌝ }
+    requires { ⌜ call < 30 ⌝ }
     ensures { λ r. ⌜ r ≡ callAt call .name ⌝ }
 {
     NAMES[call]
 }
 
 fn count_at(call: usize) -> usize
-    requires { ⌜ call < 29 ⌝ }
+    requires { ⌜ call < 30 ⌝ }
     ensures { λ r. ⌜ (r ≡ length (callAt call .numbers)) × (r ≤ 7) ⌝ }
 {
     COUNTS[call]
 }
 
 fn most_at(call: usize, place: usize) -> u64
-    requires { ⌜ (call < 29) × (place < 7) ⌝ }
+    requires { ⌜ (call < 30) × (place < 7) ⌝ }
     ensures { λ r. ⌜ r ≡ rangeAt call place .1 ⌝ }
 {
     MOST[call][place]
@@ -258,14 +265,14 @@ fn most_at(call: usize, place: usize) -> u64
 
 // A poll is of one level at least; every other number may be 0.
 fn least_at(call: usize, place: usize) -> u64
-    requires { ⌜ (call < 29) × (place < 7) ⌝ }
+    requires { ⌜ (call < 30) × (place < 7) ⌝ }
     ensures { λ r. ⌜ r ≡ rangeAt call place .0 ⌝ }
 {
     if (call == POLL) & (place == 2) { 1 } else { 0 }
 }
 
 fn is_in(call: usize, place: usize, x: u64) -> bool
-    requires { ⌜ (call < 29) × (place < 7) ⌝ }
+    requires { ⌜ (call < 30) × (place < 7) ⌝ }
     ensures { λ r. ⌜ r ≡ isIn (rangeAt call place) x ⌝ }
 {
     (least_at(call, place) <= x) & (x <= most_at(call, place))
@@ -273,7 +280,7 @@ fn is_in(call: usize, place: usize, x: u64) -> bool
 
 // The numbers of a call are in their ranges.
 fn are_in(call: usize, n: &[u64; 8]) -> bool
-    requires { ⌜ call < 29 ⌝ }
+    requires { ⌜ call < 30 ⌝ }
     ensures { λ r. ⌜ r ≡ areFrom 0 (callAt call .numbers) (now (n .entry)) ⌝ }
 {
     let count = count_at(call);
@@ -289,14 +296,14 @@ fn are_in(call: usize, n: &[u64; 8]) -> bool
 
 // The line is a name and so many numbers.
 fn is_named(line: Line, call: usize) -> bool
-    requires { ⌜ call < 29 ⌝ }
+    requires { ⌜ call < 30 ⌝ }
     ensures { λ r. ⌜ r ≡ isNamed line (callAt call) ⌝ }
 {
     line.whole & (line.name == name_at(call)) & (line.count == count_at(call))
 }
 
 fn is_call(line: Line, n: &[u64; 8], call: usize) -> bool
-    requires { ⌜ call < 29 ⌝ }
+    requires { ⌜ call < 30 ⌝ }
     ensures { λ r. ⌜ r ≡ isCall line (now (n .entry)) (callAt call) ⌝ }
 {
     is_named(line, call) && are_in(call, n)
@@ -307,7 +314,7 @@ pub fn call_of(line: Line, n: &[u64; 8]) -> usize
     ensures { λ r. ⌜ r ≡ callOf line (now (n .entry)) ⌝ }
 {
     let mut call: usize = 0;
-    while call < 29 {
+    while call < 30 {
         if is_call(line, n, call) {
             return call;
         }

@@ -48,7 +48,7 @@ pub fn phrase_of(call: usize, n: &[u64; 8]) -> Phrase
     if call == crate::WAIT {
         return text(answers::WAITS, 0);
     }
-    if (call < crate::OPEN) | (crate::CLOSED <= call) & (call <= crate::BOX_COUNT) {
+    if (call < crate::OPEN) | (crate::CLOSED <= call) & (call <= crate::WRITE) {
         return text(0, 0);
     }
     not_understood()

@@ -1,12 +1,12 @@
--- The pairs of durations of bits, lowest first: their number, the next one laid before the rest, and that they fit. Assumes nothing.
+-- The pairs of durations of bits, lowest first: their number, the next one laid before the rest, and what holds of each duration. Assumes nothing.
 use mathlib.Core.Path.{_≡_, refl}
 use mathlib.Core.Bool.{Bool, true, false}
 use mathlib.Core.List.{List, _++_}
-use Prim.Native.Nat.{ℕ, zero, suc, _+_, _-_, _*_, _^_, _<_}
+use Prim.Native.Nat.{ℕ, zero, suc, _+_, _-_, _*_, _<_}
 use native.Mathlib.Omega.{arith}
 use lib.ListN.{length}
 use lib.Seq.{sets}
-use Rattle.frames.specs.Frames.{bitSet, pairOf, pairsFrom, Fit, none, more}
+use Rattle.frames.specs.Frames.{bitSet, pairOf, pairsFrom, Each, none, more}
 
 module _ (mark short long bits : ℕ) where
   pub length-pairs : (left place : ℕ) → length (pairsFrom mark short long bits left place) ≡ 2 * left
@@ -30,12 +30,13 @@ module _ (mark short long bits : ℕ) where
   unfolding pairsFrom
   no-pair out at count place e = let none : count - place ≡ 0 = omega arith in rw none
 
-  module _ (marks : mark < 2 ^ 32) (shorts : short < 2 ^ 32) (longs : long < 2 ^ 32) where
-    pair-fits : (set : Bool) (rest : List ℕ) → Fit rest → Fit (pairOf mark short long set ++ rest)
-    pair-fits true rest fit = more marks (more longs fit)
-    pair-fits false rest fit = more marks (more shorts fit)
+  -- what holds of the mark and of both spaces
+  module _ (P : ℕ → Type 0) (marks : P mark) (shorts : P short) (longs : P long) where
+    pair-each : (set : Bool) (rest : List ℕ) → Each P rest → Each P (pairOf mark short long set ++ rest)
+    pair-each true rest each = more marks (more longs each)
+    pair-each false rest each = more marks (more shorts each)
 
-    pub pairs-fit : (left place : ℕ) → Fit (pairsFrom mark short long bits left place)
+    pub pairs-each : (left place : ℕ) → Each P (pairsFrom mark short long bits left place)
     unfolding pairsFrom
-    pairs-fit zero place = none
-    pairs-fit (suc left) place = pair-fits (bitSet bits place) _ (pairs-fit left (place + 1))
+    pairs-each zero place = none
+    pairs-each (suc left) place = pair-each (bitSet bits place) _ (pairs-each left (place + 1))

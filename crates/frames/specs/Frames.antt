@@ -40,8 +40,12 @@ unfoldable pub encodedOf : ℕ → List ℕ → List ℕ → Encoded
 encodedOf rate lent frame = admittedOf rate (length lent) (length frame)
 
 -- "places past the frame keep their contents"
-abbrev pub onto : List ℕ → List ℕ → List ℕ
+abbrev pub onto : {X : Type 0} → List X → List X → List X
 onto frame lent = frame ++ drop (length frame) lent
+
+-- of two lengths the shorter: lent lists that are filled side by side have so much room
+abbrev pub shorterOf : ℕ → ℕ → ℕ
+shorterOf one two = cond (ltb one two) one two
 
 -- what the lent buffer holds at exit: "buffer untouched" where refused, else the frame
 unfoldable pub leftOf : ℕ → List ℕ → List ℕ → List ℕ
@@ -65,7 +69,11 @@ writtenOf (Wrote count) = count
 writtenOf (Refused number) = 0
 writtenOf (Short needed) = 0
 
+-- something holds of every duration
+pub data Each (P : ℕ → Type 0) : List ℕ → Type 0 where
+  none : Each P []
+  more : {duration : ℕ} {durations : List ℕ} → P duration → Each P durations → Each P (duration ∷ durations)
+
 -- every duration of a frame fits 32 bits
-pub data Fit : List ℕ → Type 0 where
-  none : Fit []
-  more : {duration : ℕ} {durations : List ℕ} → duration < 2 ^ 32 → Fit durations → Fit (duration ∷ durations)
+abbrev pub Fit : List ℕ → Type 0
+Fit durations = Each (λ duration. duration < 2 ^ 32) durations

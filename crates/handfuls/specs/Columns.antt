@@ -7,7 +7,7 @@ use lib.Dec.{leb, ltb}
 use lib.ListN.{length, set}
 use Rattle.spans.specs.declared.Spans.{Spans}
 use Rattle.commands.specs.Command.{valuesOf}
-use Rattle.frames.specs.Frames.{onto}
+use Rattle.frames.specs.Frames.{onto, shorterOf}
 use Rattle.reports.specs.Machine.{Machine}
 use Rattle.reports.specs.Reports.{faultNumber, reportNumbers}
 use Rattle.reports.specs.declared.Report.{Report}
@@ -15,9 +15,6 @@ use Rattle.reports.specs.declared.Report.the-variants as report
 use Rattle.handfuls.specs.Batch.{isNothing, Numbered, Handful, batch}
 
 -- the room for answers: the shortest column tells
-abbrev pub shorterOf : ℕ → ℕ → ℕ
-shorterOf one two = cond (ltb one two) one two
-
 abbrev pub roomOf : (edges kinds values : ℕ) → ℕ
 roomOf edges kinds values = shorterOf values (shorterOf kinds edges)
 

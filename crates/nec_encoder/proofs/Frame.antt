@@ -1,12 +1,12 @@
--- The NEC frame and its closed form: their lengths, and that their durations fit. Assumes nothing.
+-- The NEC frame and its closed form: their lengths, what holds of each duration, and that it fits. Assumes nothing.
 use mathlib.Core.Path.{_≡_}
-use mathlib.Core.List.{List, [], _∷_, _++_}
+use mathlib.Core.List.{List, [], _∷_}
 use Prim.Native.Nat.{ℕ, _≤_, _<_, _^_}
 use native.Mathlib.Omega.{arith}
-use lib.ListN.{length, length-append}
-use Rattle.frames.specs.Frames.{scaledOf, Fit, none, more}
+use lib.ListN.{length, drop, length-append}
+use Rattle.frames.specs.Frames.{scaledOf, Each, none, more, Fit}
 use Rattle.frames.proofs.Scaled.{scaled-le}
-use Rattle.frames.proofs.Pairs.{length-pairs, pairs-fit}
+use Rattle.frames.proofs.Pairs.{length-pairs, pairs-each}
 use Rattle.nec_encoder.specs.Encoder.{frameOf, closed}
 
 -- "67 durations"
@@ -18,21 +18,26 @@ length-frame bits rate = omega (arith, length-pairs (scaledOf 560 rate) (scaledO
 pub length-closed : (bits rate : ℕ) → length (closed (frameOf bits rate) rate) ≡ 68
 length-closed bits rate = omega (arith, length-frame bits rate, length-append (frameOf bits rate) (scaledOf 560 rate ∷ []))
 
+-- what holds of every length, as scaled, holds of every duration after the first
+module _ (P : ℕ → Type 0) (rate : ℕ) (holds : (length : ℕ) → 560 ≤ length → length ≤ 9000 → P (scaledOf length rate)) where
+  pub frame-each : (bits : ℕ) → Each P (drop 1 (frameOf bits rate))
+  unfolding frameOf
+  frame-each bits =
+      let mark = holds 560 (omega arith) (omega arith) in
+      more (holds 9000 (omega arith) (omega arith)) (more (holds 4500 (omega arith) (omega arith)) (pairs-each _ _ _ bits P mark mark (holds 1690 (omega arith) (omega arith)) 32 0))
+
+  pub closed-each : {durations : List ℕ} → Each P durations → Each P (closed durations rate)
+  closed-each none = more (holds 560 (omega arith) (omega arith)) none
+  closed-each (more one rest) = more one (closed-each rest)
+
 -- every duration fits 32 bits at an admitted rate
-pub frame-fits : (bits rate : ℕ) → rate ≤ 9673349 → Fit (frameOf bits rate)
-unfolding frameOf
-frame-fits bits rate h =
-    more {duration = 0} (omega arith) (more (fits 9000 (omega arith)) (more (fits 4500 (omega arith)) (pairs-fit _ _ _ bits short short (fits 1690 (omega arith)) 32 0)))
-  where
-    fits : (length : ℕ) → length ≤ 9000 → scaledOf length rate < 2 ^ 32
-    fits length small = omega (arith, scaled-le length rate h)
+module _ (bits rate : ℕ) (h : rate ≤ 9673349) where
+  abbrev fits : (length : ℕ) → 560 ≤ length → length ≤ 9000 → scaledOf length rate < 2 ^ 32
+  fits length some small = omega (arith, scaled-le length rate h)
 
-    short : scaledOf 560 rate < 2 ^ 32
-    short = fits 560 (omega arith)
+  pub frame-fits : Fit (frameOf bits rate)
+  unfolding frameOf
+  frame-fits = more {duration = 0} (omega arith) (frame-each (λ duration. duration < 2 ^ 32) rate fits bits)
 
-pub closed-fits : (bits rate : ℕ) → rate ≤ 9673349 → Fit (closed (frameOf bits rate) rate)
-closed-fits bits rate h = after (frame-fits bits rate h)
-  where
-    after : {durations : List ℕ} → Fit durations → Fit (durations ++ (scaledOf 560 rate ∷ []))
-    after none = more {duration = scaledOf 560 rate} (omega (arith, scaled-le 560 rate h)) none
-    after (more fits rest) = more fits (after rest)
+  pub closed-fits : Fit (closed (frameOf bits rate) rate)
+  closed-fits = closed-each (λ duration. duration < 2 ^ 32) rate fits frame-fits

@@ -1,7 +1,7 @@
 -- The RC5 frame: its length, and that its durations fit. Assumes nothing.
 use mathlib.Core.Path.{_≡_, ap, _∙_}
 use mathlib.Core.Bool.{true}
-use Prim.Native.Nat.{ℕ, _+_, _/_, _%_, _≤_}
+use Prim.Native.Nat.{ℕ, _+_, _/_, _%_, _^_, _≤_, _<_}
 use native.Mathlib.Omega.{arith}
 use lib.Count.{ones}
 use lib.Dec.{eqb}
@@ -12,7 +12,7 @@ use Rattle.frames.proofs.LowBits.{same-bits}
 use Rattle.frames.proofs.Scaled.{scaled-le}
 use Rattle.rc5_encoder.specs.Encoder.{piecesAfter, frameOf}
 use Rattle.rc5_encoder.specs.EncoderSteps.{wordOf, changesOf}
-use Rattle.rc5_encoder.proofs.Pieces.{piecesBelow, same-pieces, length-pieces, pieces-fit}
+use Rattle.rc5_encoder.proofs.Pieces.{piecesBelow, same-pieces, length-pieces, pieces-each}
 
 top : (bits : ℕ) → wordOf bits / 8192 ≡ 1
 top bits = omega arith
@@ -44,7 +44,9 @@ counted bits single = omega (arith, length-frame bits single, top-change (wordOf
 -- every duration fits 32 bits at an admitted rate
 pub frame-fits : (bits rate : ℕ) → rate ≤ 9673349 → Fit (frameOf bits (scaledOf 889 rate))
 unfolding frameOf
-frame-fits bits rate h = more {duration = 0} (omega arith) (pieces-fit (scaledOf 889 rate) (omega (arith, scaled-le 889 rate h)) bits true 13)
+frame-fits bits rate h =
+    let single : scaledOf 889 rate < 2 ^ 31 = omega (arith, scaled-le 889 rate h) in
+    more {duration = 0} (omega arith) (pieces-each (λ duration. duration < 2 ^ 32) (scaledOf 889 rate) (omega arith) (omega arith) bits true 13)
 
 -- what is counted of the packed bits is the length of the frame
 pub needed-is : (needed bits packed single : ℕ) → needed ≡ length (frameOf bits 0) → bits ≡ packed → needed ≡ length (frameOf packed single)

@@ -1,14 +1,14 @@
--- The pieces of RC5 bits, highest first: one laid before the rest, and their number. Assumes nothing.
+-- The pieces of RC5 bits, highest first: one laid before the rest, their number, and what holds of each duration. Assumes nothing.
 use mathlib.Core.Path.{_≡_, refl, sym, ap, _∙_}
 use mathlib.Core.Bool.{Bool, true, false, not, cond, Bool·beq}
 use mathlib.Core.List.{List, _++_}
-use Prim.Native.Nat.{ℕ, zero, suc, _+_, _-_, _*_, _^_, _<_}
+use Prim.Native.Nat.{ℕ, zero, suc, _+_, _-_, _*_, _<_}
 use native.Mathlib.Nat.{le-refl}
 use native.Mathlib.Numerals.{add-one}
 use native.Mathlib.Omega.{arith}
 use lib.ListN.{length, length-append}
 use lib.Seq.{sets}
-use Rattle.frames.specs.Frames.{bitSet, Fit, none, more}
+use Rattle.frames.specs.Frames.{bitSet, Each, none, more}
 use Rattle.frames.proofs.Changes.{sameAt, changes, changed, changesBelow, none-below, one-more}
 use Rattle.frames.proofs.Laid.{sets-append}
 use Rattle.rc5_encoder.specs.Encoder.{pieceOf, piecesAfter}
@@ -68,12 +68,12 @@ module _ (single word : ℕ) (change : Bool) (left : ℕ) (some : 0 < left) (tol
       (sym (ap (sets out at) pieces-next ∙ sets-append out at (pieceOf single (not change)) (piecesBelow single word (left - 1))))
 
 -- each duration is a single or a double
-module _ (single : ℕ) (small : single < 2 ^ 31) where
-  piece-fits : (equal : Bool) (rest : List ℕ) → Fit rest → Fit (pieceOf single equal ++ rest)
-  piece-fits true rest fit = let one : single < 2 ^ 32 = omega arith in more one (more one fit)
-  piece-fits false rest fit = let double : 2 * single < 2 ^ 32 = omega arith in more double fit
+module _ (P : ℕ → Type 0) (single : ℕ) (one : P single) (double : P (2 * single)) where
+  piece-each : (equal : Bool) (rest : List ℕ) → Each P rest → Each P (pieceOf single equal ++ rest)
+  piece-each true rest each = more one (more one each)
+  piece-each false rest each = more double each
 
-  pub pieces-fit : (bits : ℕ) (before : Bool) (left : ℕ) → Fit (piecesAfter single bits before left)
+  pub pieces-each : (bits : ℕ) (before : Bool) (left : ℕ) → Each P (piecesAfter single bits before left)
   unfolding piecesAfter
-  pieces-fit bits before zero = none
-  pieces-fit bits before (suc left) = piece-fits (Bool·beq before (bitSet bits left)) _ (pieces-fit bits (bitSet bits left) left)
+  pieces-each bits before zero = none
+  pieces-each bits before (suc left) = piece-each (Bool·beq before (bitSet bits left)) _ (pieces-each bits (bitSet bits left) left)

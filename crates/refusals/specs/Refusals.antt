@@ -36,6 +36,14 @@ unlikeLists = 5
 abbrev pub shortBuffer : ℕ
 shortBuffer = 3
 
+-- document 02, request 03, of a line that is read: "any other line"
+abbrev pub badLine : ℕ
+badLine = 6
+
+-- "a line wrong only by a number too large"
+abbrev pub tooLarge : ℕ
+tooLarge = 7
+
 -- x lies between two ends, both included
 abbrev pub within : ℕ → ℕ → ℕ → Bool
 within low x high = leb low x && leb x high

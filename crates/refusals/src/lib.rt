@@ -18,6 +18,12 @@ pub const SHORT_BUFFER: u32 = 3;
 // A decoder's bit counter is past its end.
 pub const PAST_END: u32 = 4;
 
+// A line of a capture that is no pulse and no space as the reader expects it.
+pub const BAD_LINE: u32 = 6;
+
+// A line of a capture that is wrong only by a number too large.
+pub const TOO_LARGE: u32 = 7;
+
 // Of eight receivers in one record, the place named is not open.
 pub const NOT_OPEN: u32 = 8;
 

@@ -2,6 +2,7 @@
 // docs/CALLS.md lists the calls and their answers.
 mod on_batches;
 mod on_frames;
+mod on_mode2;
 mod on_spans;
 
 use box_calls::BoxAnswer;
@@ -19,6 +20,7 @@ use on_batches::started;
 use on_batches::stepped;
 use on_batches::waiting_after;
 use on_frames::put_encode_call;
+use on_mode2::put_write_call;
 use on_spans::put_spans_call;
 use receivers::Receivers;
 use text::put;
@@ -66,6 +68,9 @@ fn put_call_answer(
     }
     if (call == calls::ENCODE) | (call == calls::CLOSED) {
         return put_encode_call(text, at, call, n);
+    }
+    if call == calls::WRITE {
+        return put_write_call(text, at, n);
     }
     if call == calls::BATCH {
         return put_batched(text, at, parts, columns, n[1]);

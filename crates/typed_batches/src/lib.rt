@@ -16,8 +16,9 @@ ghost use mathlib.Core.List.{[], _∷_};
 ghost use Prim.Native.Nat.{_+_, _<_};
 ghost use lib.ListN.{length, set};
 ghost use Rattle.commands.specs.Command.{valuesOf};
+ghost use Rattle.frames.specs.Frames.{shorterOf};
 ghost use Rattle.handfuls.specs.Batch.{isNothing};
-ghost use Rattle.handfuls.specs.Columns.{shorterOf, roomOf, packedOf, kindOf, valueOf, isFull, countAfter, putIn};
+ghost use Rattle.handfuls.specs.Columns.{roomOf, packedOf, kindOf, valueOf, isFull, countAfter, putIn};
 
 fn shorter(one: usize, two: usize) -> usize
     ensures { λ r. ⌜ r ≡ shorterOf one two ⌝ }

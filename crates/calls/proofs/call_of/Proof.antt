@@ -9,10 +9,10 @@ use Rattle.calls.proofs.call_of.Statement.{statement}
 use Rattle.calls.proofs.call_of.Tie as tie
 
 abbrev Inv-loop : tie.InvT-loop
-Inv-loop line n call₀ call = (call ≤ 29) × (From line n call ≡ callOf line n)
+Inv-loop line n call₀ call = (call ≤ 30) × (From line n call ≡ callOf line n)
 
 abbrev μ-loop : tie.MeasureT-loop
-μ-loop line n call₀ call = 29 - call
+μ-loop line n call₀ call = 30 - call
 
 returns : tie.Need-returns Inv-loop μ-loop
 returns c =

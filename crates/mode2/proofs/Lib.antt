@@ -1,0 +1,4 @@
+pub mod Determined
+pub mod Filling
+pub mod KindAt
+pub mod Lines

@@ -1,0 +1,1 @@
+// Document 02, request 03: what is promised of captures: specs/Captures.antt, specs/WrittenHeard.antt. No code.
