@@ -1,7 +1,7 @@
 -- A line that is read on from where it stands, up to its newline: a text may come in pieces of any length.
 use Prim.Native.Nat.{ℕ, _+_}
 use mathlib.Core.Path.{_≡_}
-use mathlib.Core.Bool.{true, false, cond}
+use mathlib.Core.Bool.{Bool, true, false, cond}
 use mathlib.Core.List.{List, [], _∷_, _++_}
 use lib.Dec.{eqb}
 use Rattle.refusals.specs.Refusals.{badLine}
@@ -18,6 +18,10 @@ unfoldable pub scanFrom : Line → ℕ → List ℕ → Scan
 scanFrom line at [] = record { line = line; end = at; ended = false }
 scanFrom line at (b ∷ bs) =
     cond (eqb b newline) (record { line = line; end = at + 1; ended = true }) (scanFrom (fedOf line b) (at + 1) bs)
+
+-- a line whose word and blank are read
+abbrev pub wordRead : Bool → Line
+wordRead isSpace = record { seen = 6; «is_space» = isSpace; number = 0 }
 
 -- a line that was scanned, taken at the place where it starts
 unfoldable pub takenOf : Place → Scan → Step

@@ -4,9 +4,12 @@ pub mod lists;
 use mode2_lines::Line;
 use mode2_lines::Says;
 ghost use mathlib.Core.Path.{_≡_};
-ghost use lib.ListN.{drop};
+ghost use mathlib.Core.List.{[], _∷_};
+ghost use Prim.Native.Nat.{_+_, _^_, _≤_, _<_};
+ghost use lib.ListN.{length, drop};
+ghost use Rattle.mode2_lines.specs.Line.{startsWith};
 ghost use Rattle.mode2.specs.Held.{readerAt, readerStep, movedOn};
-ghost use Rattle.mode2.specs.Scans.{scanFrom, takenOf};
+ghost use Rattle.mode2.specs.Scans.{wordRead, scanFrom, takenOf};
 ghost use Rattle.mode2.specs.Steps.{startPlace, isDue, dueAfter, refusedAt, isOpening, opened, passed, kindAt, stepOf};
 
 // The kinds of line that may come next.
@@ -65,12 +68,124 @@ pub fn start() -> Place
     }
 }
 
+// A line so far, and the byte at which it is read on.
+struct ReadOn {
+    line: Line,
+    at: usize,
+}
+
+fn read_on(line: Line, at: usize) -> ReadOn
+    ensures { λ r. ⌜ r ≡ record { line = line; at = at } ⌝ }
+{
+    ReadOn { line, at }
+}
+
+// Whether these four letters, an "e" and a blank stand at a byte of the text.
+fn stands(text: &[u8], at: usize, a: u8, b: u8, c: u8, d: u8) -> bool
+    requires { ⌜ at + 6 ≤ length (now text) ⌝ }
+    ensures { λ r. ⌜ r ≡ startsWith (a ∷ b ∷ c ∷ d ∷ 101 ∷ 32 ∷ []) (drop at (now (text .entry))) ⌝ }
+{
+    if text[at] != a {
+        return false;
+    }
+    if text[at + 1] != b {
+        return false;
+    }
+    if text[at + 2] != c {
+        return false;
+    }
+    if text[at + 3] != d {
+        return false;
+    }
+    if text[at + 4] != b'e' {
+        return false;
+    }
+    text[at + 5] == b' '
+}
+
+// After the word and its blank.
+fn after_word(is_space: bool, at: usize) -> ReadOn
+    requires { ⌜ at + 6 < 2 ^ 64 ⌝ }
+    ensures { λ r. ⌜ r ≡ record { line = wordRead «is_space»; at = at + 6 } ⌝ }
+{
+    ReadOn {
+        line: Line {
+            seen: 6,
+            is_space,
+            number: 0,
+        },
+        at: at + 6,
+    }
+}
+
+// Reads a line's word at once, where all of it is there; else nothing. What is scanned from then on is the same.
+fn word_read(line: Line, text: &[u8], at: usize) -> ReadOn
+    ensures { λ r. ⌜ scanFrom (r .line) (r .at) (drop (r .at) (now (text .entry))) ≡ scanFrom line at (drop at (now (text .entry))) ⌝ }
+{
+    if line.seen != 0 {
+        return read_on(line, at);
+    }
+    if text.len() < 6 {
+        return read_on(line, at);
+    }
+    if text.len() - 6 < at {
+        return read_on(line, at);
+    }
+    if stands(text, at, b'p', b'u', b'l', b's') {
+        return after_word(false, at);
+    }
+    if stands(text, at, b's', b'p', b'a', b'c') {
+        return after_word(true, at);
+    }
+    read_on(line, at)
+}
+
+// Reads the digits after the word, as many as there are. What is scanned from then on is the same.
+fn digits_read(line: Line, text: &[u8], at: usize) -> ReadOn
+    ensures { λ r. ⌜ scanFrom (r .line) (r .at) (drop (r .at) (now (text .entry))) ≡ scanFrom line at (drop at (now (text .entry))) ⌝ }
+{
+    if line.seen != 6 {
+        return read_on(line, at);
+    }
+    let is_space = line.is_space;
+    let mut seen = line.seen;
+    let mut number = line.number;
+    let mut i = at;
+    while i < text.len() {
+        let b = text[i];
+        if !mode2_lines::is_digit(seen, b) {
+            return ReadOn {
+                line: Line {
+                    seen,
+                    is_space,
+                    number,
+                },
+                at: i,
+            };
+        }
+        number = mode2_lines::digit_on(number, b - b'0');
+        seen = 7;
+        i += 1;
+    }
+    ReadOn {
+        line: Line {
+            seen,
+            is_space,
+            number,
+        },
+        at: i,
+    }
+}
+
 // Reads a line on from a byte of the text, up to its newline or the end of the text. A text that comes in pieces is read on with the line so far.
+// A whole word and its digits are read at once, in a quarter of the instructions. What is left goes through `fed` a byte at a time: in a good line nothing is.
 pub fn scanned(line: Line, text: &[u8], at: usize) -> Scan
     ensures { λ r. ⌜ r ≡ scanFrom line at (drop at (now (text .entry))) ⌝ }
 {
-    let mut so_far = line;
-    let mut i = at;
+    let word = word_read(line, text, at);
+    let digits = digits_read(word.line, text, word.at);
+    let mut so_far = digits.line;
+    let mut i = digits.at;
     while i < text.len() {
         let b = text[i];
         if b == b'\n' {

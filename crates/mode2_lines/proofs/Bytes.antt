@@ -3,9 +3,10 @@ use mathlib.Core.Path.{_≡_, sym, _∙_}
 use mathlib.Core.Bool.{Bool, true, false, cond}
 use Prim.Native.Nat.{ℕ, _+_, _-_, _≤_, _<_}
 use native.Mathlib.Omega.{arith}
-use borrow.Author.Tests.{lt-ltb, le-ltb, le-leb, lt-leb, eq-eqb, ne-eqb}
-use lib.Dec.{eqb}
-use Rattle.mode2_lines.specs.Machine.{wrongLine, letterAt, isSpaceBy, wordFed, digitOn, leastDigit, digitFed, fedOf}
+use borrow.Author.Tests.{lt-ltb, le-ltb, leb-true, eq-eqb, ne-eqb}
+use lib.Dec.{leb, eqb}
+use Rattle.refusals.proofs.Within.{both-left}
+use Rattle.mode2_lines.specs.Machine.{wrongLine, letterAt, isSpaceBy, wordFed, digitOn, leastDigit, isDigitAfter, digitFed, fedOf}
 use Rattle.mode2_lines.specs.declared.Line.{Line}
 
 module _ (line : Line) (b : ℕ) where
@@ -21,19 +22,15 @@ module _ (line : Line) (b : ℕ) where
   unfolding fedOf
   fed-wrong g h r e = e ∙ simp (le-ltb _ _ g, le-ltb _ _ h)
 
-  pub digit-low : (l : ℕ) → l ≡ leastDigit (line .seen) → b < l → (r : Line) → r ≡ wrongLine → r ≡ digitFed line b
+  pub digit-bad : isDigitAfter (line .seen) b ≡ false → (r : Line) → r ≡ wrongLine → r ≡ digitFed line b
   unfolding digitFed
-  digit-low l e h r f = f ∙ simp (sym e, lt-leb _ _ h)
-
-  pub digit-high : (l : ℕ) → l ≡ leastDigit (line .seen) → l ≤ b → 57 < b → (r : Line) → r ≡ wrongLine → r ≡ digitFed line b
-  unfolding digitFed
-  digit-high l e g h r f = f ∙ simp (sym e, le-leb _ _ g, lt-leb _ _ h)
+  digit-bad h r e = e ∙ simp h
 
   pub digit-good
-      : (l : ℕ) → l ≡ leastDigit (line .seen) → l ≤ b → b ≤ 57 → (n : ℕ) → n ≡ digitOn (line .number) (b - 48)
+      : isDigitAfter (line .seen) b ≡ true → (n : ℕ) → n ≡ digitOn (line .number) (b - 48)
       → record { seen = 7; «is_space» = line .«is_space»; number = n } ≡ digitFed line b
   unfolding digitFed
-  digit-good l e g h n f = simp (sym e, le-leb _ _ g, le-leb _ _ h, f)
+  digit-good h n e = simp (h, e)
 
   pub word-good
       : (s : Bool) → s ≡ isSpaceBy line b → (x : ℕ) → x ≡ letterAt s (line .seen) → b ≡ x
@@ -45,9 +42,10 @@ module _ (line : Line) (b : ℕ) where
   unfolding wordFed
   word-bad s e x f h r g = g ∙ simp (sym e, sym f, ne-eqb _ _ h)
 
-pub least-is : (seen : ℕ) (l : ℕ) → l ≡ leastDigit seen → 48 ≤ l
-least-is seen l e = least (eqb seen 6) l e
+-- a digit is at least 0, and at most 9
+pub digit-from : (seen b : ℕ) → isDigitAfter seen b ≡ true → 48 ≤ b
+digit-from seen b e = least (eqb seen 6) (both-left (leb (leastDigit seen) b) (leb b 57) e)
   where
-    least : (t : Bool) (l : ℕ) → l ≡ cond t 49 48 → 48 ≤ l
-    least true l e = omega arith
-    least false l e = omega arith
+    least : (t : Bool) → leb (cond t 49 48) b ≡ true → 48 ≤ b
+    least true h = omega (arith, leb-true 49 b h)
+    least false h = leb-true 48 b h

@@ -41,9 +41,12 @@ digitOn x d = stopped (x * 10 + d)
 abbrev pub leastDigit : ℕ → ℕ
 leastDigit seen = cond (eqb seen 6) (code "1") (code "0")
 
+abbrev pub isDigitAfter : ℕ → ℕ → Bool
+isDigitAfter seen b = isBetween b (leastDigit seen) (code "9")
+
 unfoldable pub digitFed : Line → ℕ → Line
 digitFed line b =
-    cond (isBetween b (leastDigit (line .seen)) (code "9"))
+    cond (isDigitAfter (line .seen) b)
     (record { seen = 7; «is_space» = line .«is_space»; number = digitOn (line .number) (b - code "0") })
     wrongLine
 

@@ -1,7 +1,7 @@
 // Document 02, request 03: a line of mode2 text as it is read, a byte at a time, and what it says.
 ghost use mathlib.Core.Path.{_≡_};
 ghost use Prim.Native.Nat.{_<_};
-ghost use Rattle.mode2_lines.specs.Machine.{freshLine, wrongLine, letterAt, isSpaceBy, wordFed, digitOn, leastDigit, digitFed, fedOf, saidOf};
+ghost use Rattle.mode2_lines.specs.Machine.{freshLine, wrongLine, letterAt, isSpaceBy, wordFed, digitOn, leastDigit, isDigitAfter, digitFed, fedOf, saidOf};
 
 // A line so far.
 pub struct Line {
@@ -84,7 +84,7 @@ fn word_fed(line: Line, b: u8) -> Line
 }
 
 // A number with one more digit; once too large it stays so.
-fn digit_on(x: u32, d: u8) -> u32
+pub fn digit_on(x: u32, d: u8) -> u32
     ensures { λ r. ⌜ r ≡ digitOn x d ⌝ }
 {
     let y = x as u64 * 10 + d as u64;
@@ -101,15 +101,21 @@ fn least_digit(seen: usize) -> u8
     if seen == 6 { b'1' } else { b'0' }
 }
 
+// Whether a byte is a digit that may come next in a number.
+pub fn is_digit(seen: usize, b: u8) -> bool
+    ensures { λ r. ⌜ r ≡ isDigitAfter seen b ⌝ }
+{
+    if b < least_digit(seen) {
+        return false;
+    }
+    b <= b'9'
+}
+
 // One more digit.
 fn digit_fed(line: Line, b: u8) -> Line
     ensures { λ r. ⌜ r ≡ digitFed line b ⌝ }
 {
-    let least = least_digit(line.seen);
-    if b < least {
-        return wrong();
-    }
-    if b'9' < b {
+    if !is_digit(line.seen, b) {
         return wrong();
     }
     let number = digit_on(line.number, b - b'0');

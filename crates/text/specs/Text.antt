@@ -52,6 +52,13 @@ digitsOf (suc n) power x = digitAt x power ∷ digitsOf n (power / 10) x
 unfoldable pub decimal : ℕ → List ℕ
 decimal x = digitsOf 20 (10 ^ 19) x
 
+-- of a number below 100,000 the digits from the fifth on are as good as all
+abbrev pub firstPower : ℕ → ℕ
+firstPower x = cond (ltb x 100000) 10000 (10 ^ 19)
+
+abbrev pub digitsAsked : ℕ → ℕ
+digitsAsked x = cond (ltb x 100000) 5 20
+
 -- a number of either sign in decimal: where it is negative, a minus comes first
 unfoldable pub signedDecimal : ℤ → List ℕ
 signedDecimal x = cond (nonNeg x) (decimal (natAbs x)) (code "-" ∷ decimal (natAbs x))

@@ -2,7 +2,7 @@
 pub mod words;
 
 ghost use mathlib.Core.Path.{_≡_};
-ghost use Rattle.text.specs.Text.{putOf, putsOf, firstLetter, otherLetters, letters, digitAt, decimal, signedDecimal, nextText, numbersText};
+ghost use Rattle.text.specs.Text.{putOf, putsOf, firstLetter, otherLetters, letters, digitAt, firstPower, digitsAsked, decimal, signedDecimal, nextText, numbersText};
 
 // A character, where there is room; 0 is none.
 pub fn put(text: &mut [u8], at: usize, b: u8) -> usize
@@ -61,14 +61,31 @@ fn digit_at(x: u64, power: u64) -> u8
     0
 }
 
+// Most numbers are short: of one below 100,000 the digits from the fifth on are asked, of any other all 20.
+fn first_power(x: u64) -> u64
+    ensures { λ r. ⌜ r ≡ firstPower x ⌝ }
+{
+    if x < 100000 {
+        10000
+    } else {
+        10000000000000000000
+    }
+}
+
+fn digits_asked(x: u64) -> u8
+    ensures { λ r. ⌜ r ≡ digitsAsked x ⌝ }
+{
+    if x < 100000 { 5 } else { 20 }
+}
+
 // A number in decimal: at most 20 digits.
 pub fn put_number(text: &mut [u8], at: usize, x: u64) -> usize
     ensures next { λ r. ⌜ r ≡ putsOf (now (text .entry)) at (decimal x) .1 ⌝ }
     ensures left { λ _. ⌜ now (text .exit) ≡ putsOf (now (text .entry)) at (decimal x) .0 ⌝ }
 {
     let mut next = at;
-    let mut power: u64 = 10000000000000000000;
-    let mut left: u8 = 20;
+    let mut power = first_power(x);
+    let mut left = digits_asked(x);
     while left > 0 {
         next = put(text, next, digit_at(x, power));
         power = power / 10;

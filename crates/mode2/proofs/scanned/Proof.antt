@@ -9,7 +9,7 @@ use Rattle.mode2.proofs.scanned.Statement.{statement}
 use Rattle.mode2.proofs.scanned.Tie as tie
 
 abbrev Inv-loop : tie.InvT-loop
-Inv-loop text at so-far₀ i₀ so-far i = scanFrom so-far i (drop i text) ≡ scanFrom so-far₀ at (drop at text)
+Inv-loop text at so-far₀ i₀ so-far i = scanFrom so-far i (drop i text) ≡ scanFrom so-far₀ i₀ (drop i₀ text)
 
 abbrev μ-loop : tie.MeasureT-loop
 μ-loop text at so-far₀ i₀ so-far i = length text - i
@@ -18,16 +18,19 @@ returns : tie.Need-returns Inv-loop μ-loop
 returns c =
     let inside = c .before .before in
     let loop = inside .before .loop in
-    scan-ended (inside .before .before .before .args .text .now) (loop .so-far) (loop .i) (inside .loop-test .taken) _ refl (c .if1 .taken) ∙ loop .inv
+    let digits = inside .before .before .before in
+    scan-ended _ (loop .so-far) (loop .i) (inside .loop-test .taken) _ refl (c .if1 .taken) ∙ (loop .inv ∙ (digits .digits-read .ensures ∙ digits .before .word-read .ensures))
 
 loop-again : tie.Need-loop-again Inv-loop μ-loop
 loop-again c =
     let inside = c .before .before .before in
     let loop = inside .before .loop in
-    scan-on (inside .before .before .before .args .text .now) (loop .so-far) (loop .i) (inside .loop-test .taken) _ refl (c .before .if1 .left) _ (c .fed .ensures) ∙ loop .inv
+    scan-on _ (loop .so-far) (loop .i) (inside .loop-test .taken) _ refl (c .before .if1 .left) _ (c .fed .ensures) ∙ loop .inv
 
 returns-2 : tie.Need-returns-2 Inv-loop μ-loop
-returns-2 c = scan-out _ _ _ (c .loop-test .left) ∙ c .before .loop .inv
+returns-2 c =
+    let digits = c .before .before .before in
+    scan-out _ _ _ (c .loop-test .left) ∙ (c .before .loop .inv ∙ (digits .digits-read .ensures ∙ digits .before .word-read .ensures))
 
 pub scanned-spec : {M : Type 1} → statement M
 scanned-spec =
@@ -35,6 +38,8 @@ scanned-spec =
     (tie.spec
     Inv-loop
     μ-loop
+    (λ c κs. search needs)
+    (λ c κs. search needs)
     (λ c. refl)
     (λ c. search needs)
     (λ c. search needs)

@@ -1,22 +1,23 @@
+-- `mode2_lines::digit_fed` meets its contract. Assumes nothing.
+use mathlib.Core.Path.{sym, _∙_}
 use borrow.Author.Needs.{needs}
-use native.Mathlib.Omega.{arith}
-use Rattle.mode2_lines.proofs.Bytes.{digit-low, digit-high, digit-good, least-is}
+use borrow.Author.Tests.{not-true, not-false}
+use Rattle.mode2_lines.proofs.Bytes.{digit-bad, digit-good, digit-from}
 use Rattle.mode2_lines.proofs.digit_fed.Statement.{statement}
 use Rattle.mode2_lines.proofs.digit_fed.Tie as tie
 
 returns : tie.Need-returns
-returns c = digit-low _ _ _ (c .before .before .least-digit .ensures) (c .before .if1 .taken) _ (c .wrong .ensures)
-
-returns-2 : tie.Need-returns-2
-returns-2 c = digit-high _ _ _ (c .before .before .before .least-digit .ensures) (c .before .before .if1 .left) (c .before .if2 .taken) _ (c .wrong2 .ensures)
+returns c = digit-bad _ _ (sym (c .before .before .is-digit .ensures) ∙ not-true _ (c .before .if1 .taken)) _ (c .wrong .ensures)
 
 sub-digit-on : tie.Need-sub-digit-on
-sub-digit-on c = omega (arith, least-is (c .before .before .before .args .line .seen) _ (c .before .before .least-digit .ensures))
+sub-digit-on c =
+    let start = c .before .before .args in
+    digit-from (start .line .seen) (start .b) (sym (c .before .is-digit .ensures) ∙ not-false _ (c .if1 .left))
 
-returns-3 : tie.Need-returns-3
-returns-3 c = digit-good _ _ _ (c .before .before .before .least-digit .ensures) (c .before .before .if1 .left) (c .before .if2 .left) _ (c .digit-on .ensures)
+returns-2 : tie.Need-returns-2
+returns-2 c = digit-good _ _ (sym (c .before .before .is-digit .ensures) ∙ not-false _ (c .before .if1 .left)) _ (c .digit-on .ensures)
 
 pub digit-fed-spec : {M : Type 1} → statement M
 digit-fed-spec =
     tie.close
-    (tie.spec (λ c κs. search needs) (λ c κs. search needs) returns (λ c κs. search needs) returns-2 sub-digit-on (λ c κs. search needs) returns-3)
+    (tie.spec (λ c κs. search needs) (λ c κs. search needs) returns sub-digit-on (λ c κs. search needs) returns-2)

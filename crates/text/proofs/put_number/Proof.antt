@@ -4,6 +4,7 @@ use lib.ListN.{length}
 use Rattle.text.specs.Text.{putsOf, digitsOf, decimal}
 use Rattle.text.proofs.Puts.{ended}
 use Rattle.text.proofs.Parts.{digit-put, no-digits}
+use Rattle.text.proofs.Short.{asked}
 use borrow.Author.Needs.{needs}
 use Rattle.text.proofs.put_number.Statement.{statement}
 use Rattle.text.proofs.put_number.Tie as tie
@@ -32,13 +33,14 @@ returns c =
     ended _ _ _ (loop .text) (loop .next) _ (no-digits (loop .left) (loop .power) _ (c .loop-test .left)) (loop .inv .1)
 
 pub put-number-spec : {M : Type 1} → statement M
-unfolding decimal
 put-number-spec =
     tie.close
     (tie.spec
     Inv-loop
     μ-loop
-    (λ c. (refl, refl))
+    (λ c κs. tt)
+    (λ c κs. tt)
+    (λ c. (refl, asked _ _ _ _ _ (c .digits-asked .ensures) (c .before .first-power .ensures)))
     (λ c κs. tt)
     (λ c κs. tt)
     (λ c. search needs)
