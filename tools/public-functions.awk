@@ -214,7 +214,11 @@ function pass_over(   depth, w) {
 function pass_clause(   depth, sign) {
     if (word() != "{") if (!follows("{")) return
     for (depth = 1; depth > 0 && !lost;) {
-        while (!match(rest, /[{}"]|[{]-|--|\/\/|\/[*]|«|⟦/)) if (!next_line()) return refuse("")
+        while (!match(rest, /[{}"]|[{]-|--|\/\/|\/[*]|«|⟦/)) {
+            contract = contract rest " "
+            if (!next_line()) return refuse("")
+            sub(/^ +/, "", rest)
+        }
         sign = substr(rest, RSTART, RLENGTH)
         contract = contract substr(rest, 1, RSTART - 1) (depth > 1 || sign == "{" ? sign : "")
         rest = substr(rest, RSTART + RLENGTH)

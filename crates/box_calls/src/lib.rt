@@ -14,7 +14,6 @@ use receivers::Changed;
 use receivers::Kind;
 use receivers::Place;
 use receivers::Receivers;
-use receivers::lent::total_through;
 use spans::Answer;
 use text::words::low_32;
 ghost use mathlib.Core.Path.{_≡_};
@@ -110,11 +109,10 @@ fn event(receivers: Receivers, place: usize, rising: bool, duration: u32) -> Box
     said(of_status(status), one.receivers)
 }
 
-// Through the record lent: so the lent code is compared too.
 fn total(receivers: Receivers, place: usize, rising: bool, duration: u32) -> BoxAnswer
     ensures { λ r. ⌜ r ≡ totalBy (totalAt receivers place (edge rising duration)) ⌝ }
 {
-    let one = total_through(receivers, place, rising, duration);
+    let one = receivers.event_total(place, rising, duration);
     let report = one.report;
     said(of_report(report), one.receivers)
 }

@@ -11,7 +11,7 @@ use Rattle.reports.specs.Machine.{Machine}
 use Rattle.boxes.specs.declared.Opened.the-variants as opened
 use Rattle.boxes.specs.Box.{Box, Answered, answering, openOf}
 use Rattle.boxes.specs.Alone.{Own, Call, opens, closes, at, Said, alone, aloneSays, aloneAfter, ownOf, staysOpen, isAt, called, after, saysAt, Lawful, AsAlone, BetweenOpeningAndClosing}
-use Rattle.boxes.proofs.Calls.{whole-after, spans-after, called-alone, spans-alone, others-stay, opens-lowest}
+use Rattle.boxes.proofs.Calls.{whole-after, spans-after, called-alone, spans-alone, not-named, others-stay, opens-lowest}
 
 module _ {M : Machine} (B : Box M) {Whole : B .Record → Type 0} (L : Lawful B Whole) where
   -- ---- what any run keeps
@@ -40,10 +40,10 @@ module _ {M : Machine} (B : Box M) {Whole : B .Record → Type 0} (L : Lawful B 
         : (r : B .Record) (m : M .Memory) (call : Call (M .Memory)) → Stands r m → isAt place call ≡ false → staysOpen place (call ∷ []) ≡ true
         → Stands (called B r call .after) m
     elsewhere r m call s other stays =
-        let was = others-stay B L r place call (s .whole) (s .is-open) other stays in
+        let was = others-stay B L r call place (not-named B L r place call (s .is-open) other stays) in
         record {
           whole = whole-after B L r call (s .whole);
-          is-open = was .0;
+          is-open = was .0 ∙ s .is-open;
           memory = was .1 ∙ s .memory;
           in-spans = spans-after B L r call m ∙ s .in-spans;
         }

@@ -23,7 +23,7 @@ use Rattle.reports.proofs.Machine.{event-refused, total-refused, total-invarian
 use Rattle.boxes.specs.declared.Opened.{Opened}
 use Rattle.boxes.specs.declared.Opened.the-variants as opened
 use Rattle.boxes.specs.Box.{Box, Answered, answering, lowestFree, openOf, closeOf, eventOf, totalOf, commandOf, resetOf}
-use Rattle.boxes.specs.Alone.{Own, event, total, command, reset, Call, opens, closes, at, Said, opening, taking, standing, reporting, alone, among, isAt, staysOpen, called, refusal, refusedBy, Lawful}
+use Rattle.boxes.specs.Alone.{Own, event, total, command, reset, Call, opens, closes, at, Said, opening, taking, standing, reporting, alone, among, isAt, staysOpen, called, named, refusal, refusedBy, Lawful}
 use Rattle.boxes.specs.Alone.{OthersStay, OpensLowest, OpensWhereFree, RefusesWhereFull, ClosesOne, RefusedLeaves}
 use Rattle.boxes.proofs.Lowest.{free-at, open-before, at-most}
 
@@ -46,19 +46,13 @@ module _ {A Record : Type 0} (of : A → Said) (refused : ℕ → A) (r : Record
   placed false number told some = refl
 
 module _ {M : Machine} (B : Box M) (r : B .Record) where
-  -- the place that a call may change
-  abbrev named : Call (M .Memory) → ℕ
-  named (opens taken fresh) = lowestFree B r
-  named (closes place) = place
-  named (at place own) = place
-
   -- a call leaves the record as it is, or with that place open, or with that place free
   module _ (Holds : B .Record → Type 0) where
     abbrev left : (A : Type 0) → Answered A (B .Record) → Type 0
     left A a = Holds (a .after)
 
     leaves
-        : (call : Call (M .Memory)) → Holds r → ((m : M .Memory) → Holds (B .holding r (named call) m)) → Holds (B .freed r (named call))
+        : (call : Call (M .Memory)) → Holds r → ((m : M .Memory) → Holds (B .holding r (named B r call) m)) → Holds (B .freed r (named B r call))
         → Holds (called B r call .after)
     unfolding openOf closeOf eventOf totalOf commandOf resetOf
     leaves (opens taken fresh) same held free = either (left Opened) taken (either (left Opened) (ltb (lowestFree B r) 8) (held _) same) same
@@ -79,22 +73,12 @@ module _ {M : Machine} (B : Box M) {Whole : B .Record → Type 0} (L : Lawful B 
     spans-after call n =
         leaves B r (λ after. B .spansFor after n ≡ B .spansFor r n) call refl (λ m. L .spans-holding r (named B r call) m n) (L .spans-freed r (named B r call) n)
 
-    -- every place but the one named
-    others
-        : (call : Call (M .Memory)) (other : ℕ) → (other ≡ named B r call → ⊥)
-        → (B .isOpen (called B r call .after) other ≡ B .isOpen r other) × (B .memoryAt (called B r call .after) other ≡ B .memoryAt r other)
-    others call other apart =
-        let place = named B r call in
-        leaves B r (λ after. (B .isOpen after other ≡ B .isOpen r other) × (B .memoryAt after other ≡ B .memoryAt r other)) call (refl, refl)
-        (λ m. (L .open-elsewhere r place other m apart, L .memory-elsewhere r place other m apart))
-        (L .open-besides r place other apart, L .memory-besides r place other apart)
-
     -- an open place is named only by a call there, or one that closes it: the lowest free place is not open
     lowest-not-open : (test : Bool) → B .isOpen r (lowestFree B r) ≡ test → B .isOpen r (lowestFree B r) ≡ false
     lowest-not-open true e = free-at (B .isOpen r) 8 0 (L .of-eight r (lowestFree B r) e)
     lowest-not-open false e = e
 
-    not-named
+    pub not-named
         : (place : ℕ) (call : Call (M .Memory)) → B .isOpen r place ≡ true → isAt place call ≡ false → staysOpen place (call ∷ []) ≡ true
         → place ≡ named B r call → ⊥
     unfolding staysOpen
@@ -147,7 +131,11 @@ module _ {M : Machine} (B : Box M) {Whole : B .Record → Type 0} (L : Lawful B 
   -- ---- the promises of one call
 
   pub others-stay : OthersStay B Whole
-  others-stay r place call whole e elsewhere stays = let was = others r call place (not-named r place call e elsewhere stays) in (was .0 ∙ e, was .1)
+  others-stay r call other apart =
+      let place = named B r call in
+      leaves B r (λ after. (B .isOpen after other ≡ B .isOpen r other) × (B .memoryAt after other ≡ B .memoryAt r other)) call (refl, refl)
+      (λ m. (L .open-elsewhere r place other m apart, L .memory-elsewhere r place other m apart))
+      (L .open-besides r place other apart, L .memory-besides r place other apart)
 
   pub opens-lowest : OpensLowest B Whole
   unfolding openOf
@@ -161,7 +149,6 @@ module _ {M : Machine} (B : Box M) {Whole : B .Record → Type 0} (L : Lawful B 
         (λ lower. open-before (B .isOpen r) 8 0 lower (omega arith)),
         rw (told .2) (L .open-there r lowest fresh whole less),
         rw (told .2) (L .memory-there r lowest fresh whole less),
-        others r (opens taken fresh),
       )
 
   pub opens-where-free : OpensWhereFree B Whole
@@ -178,7 +165,7 @@ module _ {M : Machine} (B : Box M) {Whole : B .Record → Type 0} (L : Lawful B 
 
   pub closes-one : ClosesOne B Whole
   unfolding closeOf
-  closes-one r place e = (rw e, rw e (L .free-there r place), others r (closes place))
+  closes-one r place e = (rw e, rw e (L .free-there r place))
 
   pub refused-leaves : RefusedLeaves B Whole
   refused-leaves r call some = let told = refused-call r call some in (ap (λ a. a .said) told, ap (λ a. a .after) told)

@@ -1,6 +1,6 @@
 -- Document 02, request 06: "Between opening and closing, a receiver answers as a lone fresh one would, by its protocol, the shared rate and its own edges only,
 -- however others' edges fall between. .. Only opening depends on the others." Over any machine, any record of places and any list of calls.
-use Prim.Native.Nat.{ℕ, suc, _<_}
+use Prim.Native.Nat.{ℕ, _<_}
 use mathlib.Core.Path.{_≡_}
 use mathlib.Core.Bool.{Bool, true, false, not, cond, _&&_}
 use mathlib.Core.List.{List, [], _∷_}
@@ -97,6 +97,12 @@ module _ {M : Machine} (B : Box M) where
   called r (at place command) = among reporting (commandOf B r place)
   called r (at place reset) = among taking (resetOf B r place)
 
+  -- the place that a call names; one that opens a receiver takes the lowest free one
+  abbrev pub named : B .Record → Call (M .Memory) → ℕ
+  named r (opens taken fresh) = lowestFree B r
+  named r (closes place) = place
+  named r (at place own) = place
+
   -- a run of calls: the record after them
   unfoldable pub after : B .Record → List (Call (M .Memory)) → B .Record
   after r [] = r
@@ -172,13 +178,13 @@ module _ {M : Machine} (B : Box M) (Whole : B .Record → Type 0) where
       → (saysAt B place (asked .after) between ≡ aloneSays M (B .spansFor r fresh) fresh (ownOf place between))
       × (B .memoryAt (after B (asked .after) between) place ≡ aloneAfter M (B .spansFor r fresh) fresh (ownOf place between))
 
-  -- a call at another place, and the opening of a receiver, leave an open place as it was
+  -- a call changes no place but the one that it names: every other one stays open or free, and remembers what it did
   abbrev pub OthersStay : Type 0
   OthersStay =
-      (r : B .Record) (place : ℕ) (call : Call (M .Memory)) → Whole r → B .isOpen r place ≡ true → isAt place call ≡ false → staysOpen place (call ∷ []) ≡ true
-      → (B .isOpen (called B r call .after) place ≡ true) × (B .memoryAt (called B r call .after) place ≡ B .memoryAt r place)
+      (r : B .Record) (call : Call (M .Memory)) (other : ℕ) → (other ≡ named B r call → ⊥)
+      → (B .isOpen (called B r call .after) other ≡ B .isOpen r other) × (B .memoryAt (called B r call .after) other ≡ B .memoryAt r other)
 
-  -- "Opening takes the lowest free place and starts fresh"; every other place is as it was
+  -- "Opening takes the lowest free place and starts fresh"
   abbrev pub OpensLowest : Type 0
   OpensLowest =
       (r : B .Record) (taken : Bool) (fresh : M .Memory) (place : ℕ) → Whole r
@@ -186,7 +192,6 @@ module _ {M : Machine} (B : Box M) (Whole : B .Record → Type 0) where
       asked .said ≡ opened.At place
       → (place < 8) × (B .isOpen r place ≡ false) × ((lower : ℕ) → lower < place → B .isOpen r lower ≡ true)
       × (B .isOpen (asked .after) place ≡ true) × (B .memoryAt (asked .after) place ≡ fresh)
-      × ((other : ℕ) → (other ≡ place → ⊥) → (B .isOpen (asked .after) other ≡ B .isOpen r other) × (B .memoryAt (asked .after) other ≡ B .memoryAt r other))
 
   -- refusal 9 where "all eight are open", and only there: where a protocol is taken and a place is free, a receiver is opened
   abbrev pub OpensWhereFree : Type 0
@@ -198,13 +203,12 @@ module _ {M : Machine} (B : Box M) (Whole : B .Record → Type 0) where
   RefusesWhereFull =
       (r : B .Record) (fresh : M .Memory) → ((place : ℕ) → place < 8 → B .isOpen r place ≡ true) → openOf B r true fresh ≡ answering (opened.Refused allOpen) r
 
-  -- a closed place is free, and every other place is as it was
+  -- a closed place is free
   abbrev pub ClosesOne : Type 0
   ClosesOne =
       (r : B .Record) (place : ℕ) → B .isOpen r place ≡ true
       → let asked = closeOf B r place in
       (asked .said ≡ answer.Taken) × (B .isOpen (asked .after) place ≡ false)
-      × ((other : ℕ) → (other ≡ place → ⊥) → (B .isOpen (asked .after) other ≡ B .isOpen r other) × (B .memoryAt (asked .after) other ≡ B .memoryAt r other))
 
   -- a refused call answers its number, and "the record stays"
   abbrev pub RefusedLeaves : Type 0

@@ -2,9 +2,9 @@
 use mathlib.Core.Path.{_≡_, refl, sym, ap, _∙_}
 use mathlib.Core.Bool.{Bool, true, false, _&&_}
 use mathlib.Core.List.{List, [], _∷_}
-use Prim.Native.Nat.{ℕ, suc, _+_, _-_, _≤_, _<_}
+use Prim.Native.Nat.{ℕ, suc, _+_, _-_, _*_, _≤_, _<_}
 use native.Mathlib.Omega.{arith}
-use borrow.Author.Tests.{eq-eqb, ne-eqb, eqb-true}
+use borrow.Author.Tests.{eq-eqb, eqb-true}
 use lib.Dec.{eqb}
 use lib.ListN.{length, getD, drop}
 use lib.Seq.{drop-cons, drop-drop}
@@ -13,7 +13,9 @@ use Rattle.mode2_lines.specs.Line.{newline, startsWith, pulseWord, spaceWord, w
 use Rattle.mode2_lines.specs.Machine.{digitOn, isDigitAfter, wordFed, fedOf}
 use Rattle.mode2_lines.specs.declared.Line.{Line}
 use Rattle.mode2_lines.proofs.Bytes.{fed-digit, digit-good, digit-from}
-use Rattle.mode2.specs.Scans.{wordRead, scanFrom}
+use Rattle.mode2.specs.Scans.{twoAt, fourAt, wordRead, scanFrom}
+use Rattle.mode2.specs.declared.ReadOn.{ReadOn}
+use Rattle.mode2.specs.declared.Scan.{Scan}
 use Rattle.mode2.proofs.Lines.{scan-on}
 
 -- ---- six bytes of a text
@@ -28,49 +30,41 @@ and-true : (b : Bool) → (b && true) ≡ b
 and-true true = refl
 and-true false = refl
 
-stands-by
+starts-by
     : (text : List ℕ) (at a b c d : ℕ) → at + 6 ≤ length text
     → startsWith (a ∷ b ∷ c ∷ d ∷ 101 ∷ 32 ∷ []) (drop at text)
     ≡ (eqb (getD text at 0) a && (eqb (getD text (at + 1) 0) b && (eqb (getD text (at + 2) 0) c
-    && (eqb (getD text (at + 3) 0) d && (eqb (getD text (at + 4) 0) 101 && eqb (getD text (at + 5) 0) 32)))))
+    && (eqb (getD text (at + 2 + 1) 0) d && (eqb (getD text (at + 4) 0) 101 && eqb (getD text (at + 4 + 1) 0) 32)))))
 unfolding startsWith
-stands-by text at a b c d room =
+starts-by text at a b c d room =
     rw (
       starts-next text at (at + 1) a (b ∷ c ∷ d ∷ 101 ∷ 32 ∷ []) (omega arith) (omega arith),
       starts-next text (at + 1) (at + 2) b (c ∷ d ∷ 101 ∷ 32 ∷ []) (omega arith) (omega arith),
-      starts-next text (at + 2) (at + 3) c (d ∷ 101 ∷ 32 ∷ []) (omega arith) (omega arith),
-      starts-next text (at + 3) (at + 4) d (101 ∷ 32 ∷ []) (omega arith) (omega arith),
-      starts-next text (at + 4) (at + 5) 101 (32 ∷ []) (omega arith) (omega arith),
-      starts-next text (at + 5) (at + 6) 32 [] (omega arith) (omega arith),
-      and-true (eqb (getD text (at + 5) 0) 32),
+      starts-next text (at + 2) (at + 2 + 1) c (d ∷ 101 ∷ 32 ∷ []) (omega arith) (omega arith),
+      starts-next text (at + 2 + 1) (at + 4) d (101 ∷ 32 ∷ []) (omega arith) (omega arith),
+      starts-next text (at + 4) (at + 4 + 1) 101 (32 ∷ []) (omega arith) (omega arith),
+      starts-next text (at + 4 + 1) (at + 6) 32 [] (omega arith) (omega arith),
+      and-true (eqb (getD text (at + 4 + 1) 0) 32),
     )
 
--- the first byte that is another one tells that the word is not there
-module _ (text : List ℕ) (at a b c d : ℕ) (room : at + 6 ≤ length text) where
-  abbrev word : Bool
-  word = startsWith (a ∷ b ∷ c ∷ d ∷ 101 ∷ 32 ∷ []) (drop at text)
+-- the word is there where both numbers are the word's
+module _ (text : List ℕ) (at a b c d : ℕ) (room : at + 6 ≤ length text) (bytes : (i : ℕ) → getD text i 0 < 256) where
+  starts
+      : getD text at 0 ≡ a → getD text (at + 1) 0 ≡ b → getD text (at + 2) 0 ≡ c → getD text (at + 2 + 1) 0 ≡ d → getD text (at + 4) 0 ≡ 101 → getD text (at + 4 + 1) 0 ≡ 32
+      → startsWith (a ∷ b ∷ c ∷ d ∷ 101 ∷ 32 ∷ []) (drop at text) ≡ true
+  starts e f g h k l = starts-by text at a b c d room ∙ simp (eq-eqb _ _ e, eq-eqb _ _ f, eq-eqb _ _ g, eq-eqb _ _ h, eq-eqb _ _ k, eq-eqb _ _ l)
 
-  pub not-first : (getD text at 0 ≡ a → ⊥) → false ≡ word
-  not-first h = sym (stands-by text at a b c d room ∙ simp (ne-eqb _ _ h))
-
-  module _ (e : getD text at 0 ≡ a) where
-    pub not-second : (getD text (at + 1) 0 ≡ b → ⊥) → false ≡ word
-    not-second h = sym (stands-by text at a b c d room ∙ simp (eq-eqb _ _ e, ne-eqb _ _ h))
-
-    module _ (f : getD text (at + 1) 0 ≡ b) where
-      pub not-third : (getD text (at + 2) 0 ≡ c → ⊥) → false ≡ word
-      not-third h = sym (stands-by text at a b c d room ∙ simp (eq-eqb _ _ e, eq-eqb _ _ f, ne-eqb _ _ h))
-
-      module _ (g : getD text (at + 2) 0 ≡ c) where
-        pub not-fourth : (getD text (at + 3) 0 ≡ d → ⊥) → false ≡ word
-        not-fourth h = sym (stands-by text at a b c d room ∙ simp (eq-eqb _ _ e, eq-eqb _ _ f, eq-eqb _ _ g, ne-eqb _ _ h))
-
-        module _ (k : getD text (at + 3) 0 ≡ d) where
-          pub not-e : (getD text (at + 4) 0 ≡ 101 → ⊥) → false ≡ word
-          not-e h = sym (stands-by text at a b c d room ∙ simp (eq-eqb _ _ e, eq-eqb _ _ f, eq-eqb _ _ g, eq-eqb _ _ k, ne-eqb _ _ h))
-
-          pub blank-tells : getD text (at + 4) 0 ≡ 101 → eqb (getD text (at + 5) 0) 32 ≡ word
-          blank-tells h = sym (stands-by text at a b c d room ∙ simp (eq-eqb _ _ e, eq-eqb _ _ f, eq-eqb _ _ g, eq-eqb _ _ k, eq-eqb _ _ h))
+  pub word-there
+      : fourAt text at ≡ a + b * 256 + (c + d * 256) * 65536 → twoAt text (at + 4) ≡ 8293 → a < 256 → b < 256 → c < 256
+      → startsWith (a ∷ b ∷ c ∷ d ∷ 101 ∷ 32 ∷ []) (drop at text) ≡ true
+  word-there four two la lb lc =
+      starts
+      (omega (arith, four, bytes at, bytes (at + 1), bytes (at + 2)))
+      (omega (arith, four, bytes at, bytes (at + 1), bytes (at + 2)))
+      (omega (arith, four, bytes at, bytes (at + 1), bytes (at + 2)))
+      (omega (arith, four, bytes at, bytes (at + 1), bytes (at + 2)))
+      (omega (arith, two, bytes (at + 4)))
+      (omega (arith, two, bytes (at + 4)))
 
 -- ---- a word
 
@@ -123,3 +117,9 @@ digit-scan text s seen number i b n more at low high digit is =
     let line : Line = record { seen = seen; «is_space» = s; number = number } in
     let from = digit-from seen b digit in
     scan-on text line i more b at (λ e. omega (arith, from)) _ (fed-digit line b low high _ (digit-good line b digit n is))
+
+-- ---- a line that is read on
+
+-- the scan from where a line is read on
+abbrev pub scanOn : List ℕ → ReadOn → Scan
+scanOn text r = scanFrom (r .line) (r .at) (drop (r .at) text)

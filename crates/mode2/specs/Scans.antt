@@ -1,9 +1,10 @@
 -- A line that is read on from where it stands, up to its newline: a text may come in pieces of any length.
-use Prim.Native.Nat.{ℕ, _+_}
+use Prim.Native.Nat.{ℕ, _+_, _*_}
 use mathlib.Core.Path.{_≡_}
 use mathlib.Core.Bool.{Bool, true, false, cond}
 use mathlib.Core.List.{List, [], _∷_, _++_}
 use lib.Dec.{eqb}
+use lib.ListN.{getD}
 use Rattle.refusals.specs.Refusals.{badLine}
 use Rattle.mode2_lines.specs.Line.{newline}
 use Rattle.mode2_lines.specs.Machine.{fedOf, saidOf}
@@ -18,6 +19,13 @@ unfoldable pub scanFrom : Line → ℕ → List ℕ → Scan
 scanFrom line at [] = record { line = line; end = at; ended = false }
 scanFrom line at (b ∷ bs) =
     cond (eqb b newline) (record { line = line; end = at + 1; ended = true }) (scanFrom (fedOf line b) (at + 1) bs)
+
+-- bytes of a text as one number, the first one lowest
+abbrev pub twoAt : List ℕ → ℕ → ℕ
+twoAt text at = getD text at 0 + getD text (at + 1) 0 * 256
+
+abbrev pub fourAt : List ℕ → ℕ → ℕ
+fourAt text at = twoAt text at + twoAt text (at + 2) * 65536
 
 -- a line whose word and blank are read
 abbrev pub wordRead : Bool → Line

@@ -21,11 +21,12 @@ const REFUSED: u64 = 0x7265667573656420;
 
 const LINE: u64 = 0x206C696E6520;
 
-// A piece of the input: its bytes lie in the lent buffer from `at` to `end`. The last one is empty.
+// A piece of the input: its bytes lie in the lent buffer from `at` to `end`. The last one is empty; where the input could not be read, it is lost and not the last.
 struct Piece {
     at: usize,
     end: usize,
     is_last: bool,
+    is_lost: bool,
 }
 
 // Where the capture stands: the place, the line so far, the piece that is not yet read, and where the output goes on. It is closed at its end or a refused line.
@@ -57,7 +58,8 @@ fn read(buf: &mut [u8]) -> Piece {
     Piece {
         at: 0,
         end,
-        is_last: end == 0,
+        is_last: got == 0,
+        is_lost: got < 0,
     }
 }
 
@@ -131,6 +133,7 @@ fn take_line(text: &mut [u8], at: usize, place: Place, scan: Scan, end: usize) -
         at: scan.end,
         end,
         is_last: false,
+        is_lost: false,
     };
     Reading {
         place,
@@ -176,20 +179,28 @@ fn scan_on(line: Line, buf: &[u8], piece: Piece) -> Scan {
     mode2::scanned(line, buf, piece.at)
 }
 
-// Reads on in the piece: to the next newline, or to its end, after which comes the next piece.
+// Nothing more is read.
+fn closed(place: Place, line: Line, piece: Piece, at: usize) -> Reading {
+    Reading {
+        place,
+        line,
+        piece,
+        at,
+        is_closed: true,
+    }
+}
+
+// Reads on in the piece: to the next newline, or to its end, after which comes the next piece. A capture that could not be read has no last line.
 fn turn(text: &mut [u8], buf: &mut [u8], reading: Reading) -> Reading {
     let place = reading.place;
     let line = reading.line;
     let piece = reading.piece;
+    if piece.is_lost {
+        io::write_all(STDERR_FILENO, b"mode2_edges: the input cannot be read\n");
+        return closed(place, line, piece, reading.at);
+    }
     if piece.is_last {
-        let at = take_last(text, reading.at, place, line);
-        return Reading {
-            place,
-            line,
-            piece,
-            at,
-            is_closed: true,
-        };
+        return closed(place, line, piece, take_last(text, reading.at, place, line));
     }
     let scan = scan_on(line, buf, piece);
     if scan.ended {
@@ -218,6 +229,7 @@ fn read_all(text: &mut [u8], buf: &mut [u8]) -> usize {
         at: 0,
         end: 0,
         is_last: false,
+        is_lost: false,
     };
     let mut reading = Reading {
         place,

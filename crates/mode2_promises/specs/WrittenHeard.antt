@@ -1,4 +1,4 @@
--- Document 02, request 03: "What we write reads back as the same edges"; so by demand 3 a frame that is written, read and fed after a silence is heard.
+-- Document 02, request 03: "What we write reads back as the same edges"; so by demand 3 a frame that is written and read is heard.
 use Prim.Native.Nat.{ℕ, _-_, _≤_, _<_}
 use mathlib.Core.Path.{_≡_}
 use mathlib.Core.Bool.{Bool, true, cond}
@@ -17,7 +17,7 @@ use Rattle.reports.specs.Reports.{Numbers, reportNumbers}
 use Rattle.reports.specs.Edges as edges
 use Rattle.reports.specs.Edges.{alternating}
 use Rattle.reports.specs.Machine.{Machine, runReports, runAfter}
-use Rattle.nec.specs.Decoder as nec
+use Rattle.reports.specs.declared.Report.the-variants as report
 use Rattle.nec_encoder.specs.Encoder.{necFrame, necClosedFrame}
 use Rattle.rc5.specs.Decoder as rc5
 use Rattle.rc5_encoder.specs.Encoder.{rc5Frame}
@@ -49,7 +49,7 @@ EveryFrameReadsBack = (sent : Command) → encodeTaken (protocolOf sent) ≡ tru
 abbrev pub EveryClosedReadsBack : Type 0
 EveryClosedReadsBack = (sent : NecCommand) → ReadsBack (necClosedFrame sent 1000000)
 
--- ---- fed after a silence
+-- ---- and is heard
 
 -- the first edge comes after a silence, and not after 0
 abbrev pub afterSilence : ℕ → List edges.Edge → List edges.Edge
@@ -57,19 +57,29 @@ afterSilence gap [] = []
 afterSilence gap (edge ∷ rest) = edges.edge (edge .rising) gap ∷ rest
 
 -- as demand 3 says it (`Heard` of `promises`), of the edges that are read from the frame's text
-unfoldable pub HeardWritten : Machine → Spans → (Numbers → Type 0) → (silence : ℕ) → List ℕ → Command → (reporting : ℕ) → Type 0
-HeardWritten machine spans mayReport silence frame sent reporting =
+unfoldable pub HeardAfterSilence : Machine → Spans → (Numbers → Type 0) → (silence : ℕ) → List ℕ → Command → (reporting : ℕ) → Type 0
+HeardAfterSilence machine spans mayReport silence frame sent reporting =
     (earlier : List edges.Edge) (gap : ℕ) → silence < gap
     → let reports = runReports machine spans (runAfter machine spans (machine .fresh) earlier) (afterSilence gap (edgesRead (frameText frame))) in
     (first : Numbers) × (mayReport first) × (map reportNumbers reports ≡ onlyAt (length frame) reporting first sent)
 
-abbrev pub NecWritten : List ℕ → NecCommand → Type 0
-NecWritten frame sent = HeardWritten nec.machine (spansAt1MHz 1) NothingOrData 14445 frame (command.Nec sent) 67
+-- a fresh receiver needs no silence: it hears the edges as they are read, the first one after 0
+unfoldable pub HeardFresh : Machine → Spans → List ℕ → Command → (reporting : ℕ) → Type 0
+HeardFresh machine spans frame sent reporting =
+    map reportNumbers (runReports machine spans (machine .fresh) (edgesRead (frameText frame))) ≡ onlyAt (length frame) reporting (reportNumbers report.Nothing) sent
 
-abbrev pub EveryNecWritten : Type 0
-EveryNecWritten =
+abbrev pub HeardWritten : Machine → Spans → (Numbers → Type 0) → (silence : ℕ) → List ℕ → Command → (reporting : ℕ) → Type 0
+HeardWritten machine spans mayReport silence frame sent reporting =
+    HeardAfterSilence machine spans mayReport silence frame sent reporting × HeardFresh machine spans frame sent reporting
+
+abbrev pub NecWritten : Machine → List ℕ → NecCommand → Type 0
+NecWritten machine frame sent = HeardWritten machine (spansAt1MHz 1) NothingOrData 14445 frame (command.Nec sent) 67
+
+-- by NEC in either mode, and NEC's closed form
+abbrev pub EveryNecWritten : Machine → Type 0
+EveryNecWritten machine =
     (addr cmd : ℕ) → addr < 256 → cmd < 256
-    → NecWritten (necFrame (key addr cmd) 1000000) (key addr cmd) × NecWritten (necClosedFrame (key addr cmd) 1000000) (key addr cmd)
+    → NecWritten machine (necFrame (key addr cmd) 1000000) (key addr cmd) × NecWritten machine (necClosedFrame (key addr cmd) 1000000) (key addr cmd)
 
 abbrev pub EveryRc5Written : Type 0
 EveryRc5Written =

@@ -1,5 +1,5 @@
 -- A lent call of an edge lends one table on: bases, low and high ends. The three arrays are taken out of the record, lent for the call, taken back and put in again. Assumes nothing.
-use mathlib.Core.Path.{_≡_, refl, sym, ap, subst, _∙_}
+use mathlib.Core.Path.{_≡_, refl, ap, subst, _∙_}
 use Prim.Native.Nat.{ℕ, zero, _+_, _<_}
 use mathlib.Core.List.{List, [], _∷_, map}
 use lib.ListN.{length, getD, set}
@@ -14,7 +14,7 @@ use prog.Wp.{Heap}
 use prog.Model.{fieldsAt}
 use ghost.Atoms.{Atoms}
 use types.Kit.{Given, ‵, raw, _⊛_, _$_, _∵_, !, qed, by, move, keep, use1, use2, use3, split, rewrite, fsplit, fjoin, fpick, fpack, updating, now as at-once, done}
-use types.Part.{Part, whole, sub}
+use types.Part.{whole, sub}
 use types.Tokens.{lent-back}
 use denote.Laws.{Is, shows}
 use denote.Memory.{partAt, partOf, cellAt}

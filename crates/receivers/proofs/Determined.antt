@@ -13,7 +13,6 @@ use Rattle.receivers.proofs.lent.event as lent-event
 use Rattle.receivers.proofs.lent.command as lent-command
 use Rattle.receivers.proofs.lent.reset as lent-reset
 use Rattle.receivers.proofs.lent.event_total as lent-event-total
-use Rattle.receivers.proofs.lent.total_through as lent-total-through
 
 new-fixed : Fixed new.ended (λ M. new.clauses) new.Symbol.routine
 new-fixed M 𝓤 H 𝓜 𝓖 𝓡 = (new.Met.met 𝓤 H 𝓜 𝓖 𝓡, λ κs a. asks-nothing 𝓤, λ κs a g h r s v w. both one one alike)
@@ -53,6 +52,3 @@ lent-reset-fixed M 𝓤 H 𝓜 𝓖 𝓡 = (lent-reset.Met.met 𝓤 H 𝓜 𝓖 
 
 lent-event-total-fixed : Fixed lent-event-total.ended (λ M. lent-event-total.clauses) lent-event-total.Symbol.routine
 lent-event-total-fixed M 𝓤 H 𝓜 𝓖 𝓡 = (lent-event-total.Met.met 𝓤 H 𝓜 𝓖 𝓡, λ κs a. asks-nothing 𝓤, λ κs a g h r s v w. both one one alike-left)
-
-lent-total-through-fixed : Fixed lent-total-through.ended (λ M. lent-total-through.clauses) lent-total-through.Symbol.routine
-lent-total-through-fixed M 𝓤 H 𝓜 𝓖 𝓡 = (lent-total-through.Met.met 𝓤 H 𝓜 𝓖 𝓡, λ κs a. asks-nothing 𝓤, λ κs a g h r s v w. both one one alike)

@@ -11,6 +11,11 @@ pub mod Arrays
 pub mod Record
 pub mod Values
 pub mod Columns
-pub mod Asked
-pub mod LentPlace
+pub mod Locals
+pub mod Variants
+pub mod Stepping
+pub mod LentArm
 pub mod LentEdges
+pub mod LentPlace
+pub mod ByValueEdges
+pub mod ByValuePlace

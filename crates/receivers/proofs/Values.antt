@@ -1,8 +1,7 @@
 -- What the lent calls are passed and answer, as `Valued`. Assumes nothing.
-use mathlib.Core.Path.{refl}
-use mathlib.Core.List.{[], _∷_, List}
-use mir.Syntax.{Ty, tyInt, w64}
-use mir.Val.{Val, vint}
+use mathlib.Core.List.{[], _∷_}
+use mir.Syntax.{tyInt, w64}
+use mir.Val.{vint}
 use denote.Plain.{uint-tells, uint-makes}
 use denote.Builtin.{usize}
 use denote.Lowered.{Lowered}

@@ -10,7 +10,6 @@ use Rattle.spans.specs.Spans.{columns, spansOf}
 use Rattle.spans.specs.declared.Spans.{Spans}
 use Rattle.spans.specs.declared.Answer.{Answer}
 use Rattle.reports.specs.Edges.{Edge}
-use Rattle.reports.specs.declared.Status.{Status}
 use Rattle.reports.specs.declared.Report.{Report}
 use Rattle.boxes.specs.Box.{Box, Answered, openOf, closeOf, eventOf, commandOf, resetOf, totalOf}
 use Rattle.boxes.specs.declared.Opened.{Opened}

@@ -20,7 +20,7 @@ use Rattle.receivers.specs.declared.Place.{Place}
 use Rattle.receivers.specs.declared.StoredOpened.{StoredOpened}
 use Rattle.receivers.specs.declared.StoredAnswer.{StoredAnswer}
 use Rattle.receivers.specs.declared.StoredReport.{StoredReport}
-use Rattle.receivers.specs.Receivers.{kindTaken, freshBy, placeOf, unused, tableOf}
+use Rattle.receivers.specs.Receivers.{kindTaken, freshBy, placeOf, unused}
 
 -- a place of the eight, whatever is named
 abbrev pub indexOf : ℕ → ℕ
@@ -29,10 +29,6 @@ indexOf place = place % 8
 -- the receiver there is open, and it is the one that is named
 abbrev pub answersAt : Place → ℕ → Bool
 answersAt held place = ltb place 8 && held .«is_open»
-
--- which table its edges are looked up in; 5 where it does not answer
-abbrev pub askedTable : Place → ℕ → ℕ
-askedTable held place = cond (answersAt held place) (tableOf (held .memory)) 5
 
 abbrev pub noReport : Report
 noReport = report.Refused notOpen

@@ -1,40 +1,32 @@
-// The same calls over the record that the caller keeps and lends for each: an edge reads what one place remembers, is lent one table, and stores what the place then remembers.
+// The same calls over the record that the caller keeps and lends for each: an edge goes by the memory where it stands. Its arm lends the protocol's own step one table, and stores what the place then remembers.
 use crate::Kind;
-use crate::Place;
 use crate::Receivers;
-use crate::TotalAt;
-use crate::answers;
 use crate::closed_in;
 use crate::command_in;
 use crate::no_report;
 use crate::no_status;
 use crate::opened_in;
 use crate::reset_in;
-use crate::table_of;
 use boxes::Opened;
-use protocols::decoder::event_in;
-use protocols::decoder::total_in;
+use denon::decoder::event_in as denon_event;
+use denon::decoder::total_in as denon_total;
+use guarded::decoder::event_in as guarded_event;
+use guarded::decoder::total_in as guarded_total;
+use nec::decoder::event_in as nec_event;
+use nec::decoder::total_in as nec_total;
+use protocols::decoder::Memory;
+use rc5::decoder::event_in as rc5_event;
+use rc5::decoder::total_in as rc5_total;
+use rc6::decoder::event_in as rc6_event;
+use rc6::decoder::total_in as rc6_total;
 use reports::Report;
 use reports::Status;
+use sbp::decoder::event_in as sbp_event;
+use sbp::decoder::total_in as sbp_total;
 use spans::Answer;
 ghost use mathlib.Core.Path.{_≡_};
 ghost use Rattle.reports.specs.Edges.{edge};
 ghost use Rattle.receivers.specs.Receivers.{openedAt, closedAt, eventAt, commandAt, resetAt, totalAt};
-ghost use Rattle.receivers.specs.ReceiversSteps.{askedTable};
-
-// No table.
-const NONE: usize = 5;
-
-// Which table the edges of the receiver there are looked up in; none where it is not open, or not the one that is named.
-fn asked_table(held: Place, place: usize) -> usize
-    ensures { λ r. ⌜ r ≡ askedTable held place ⌝ }
-{
-    if answers(held, place) {
-        let memory = held.memory;
-        return table_of(memory);
-    }
-    NONE
-}
 
 // Refusals: 2, then 9.
 pub fn open(receivers: &mut Receivers, kind: Kind) -> Opened
@@ -60,24 +52,51 @@ pub fn close(receivers: &mut Receivers, place: usize) -> Answer
 pub fn event(receivers: &mut Receivers, place: usize, rising: bool, duration: u32) -> Status
     ensures { λ r. ⌜ (r ≡ eventAt (now (receivers .entry)) place (edge rising duration) .status) × (now (receivers .exit) ≡ eventAt (now (receivers .entry)) place (edge rising duration) .receivers) ⌝ }
 {
-    let at = place % 8;
-    let held = receivers.places[at];
-    let table = asked_table(held, place);
-    if table == NONE {
+    if place >= 8 {
         return no_status();
     }
-    let memory = held.memory;
-    let spans = &receivers.tables[table];
-    let after = event_in(
-        &spans.base,
-        &spans.low,
-        &spans.high,
-        memory,
-        rising,
-        duration,
-    );
-    receivers.places[at].memory = after.memory;
-    after.status
+    let held = &mut receivers.places[place];
+    if !held.is_open {
+        return no_status();
+    }
+    match held.memory {
+        Memory::Nec(m) => {
+            let spans = &receivers.tables[0];
+            let after = nec_event(&spans.base, &spans.low, &spans.high, m, rising, duration);
+            held.memory = Memory::Nec(after.memory);
+            after.status
+        }
+        Memory::Rc5(m) => {
+            let spans = &receivers.tables[1];
+            let after = rc5_event(&spans.base, &spans.low, &spans.high, m, rising, duration);
+            held.memory = Memory::Rc5(after.memory);
+            after.status
+        }
+        Memory::Rc6(m) => {
+            let spans = &receivers.tables[2];
+            let after = rc6_event(&spans.base, &spans.low, &spans.high, m, rising, duration);
+            held.memory = Memory::Rc6(after.memory);
+            after.status
+        }
+        Memory::Sbp(m) => {
+            let spans = &receivers.tables[3];
+            let after = sbp_event(&spans.base, &spans.low, &spans.high, m, rising, duration);
+            held.memory = Memory::Sbp(after.memory);
+            after.status
+        }
+        Memory::Denon(m) => {
+            let spans = &receivers.tables[4];
+            let after = denon_event(&spans.base, &spans.low, &spans.high, m, rising, duration);
+            held.memory = Memory::Denon(after.memory);
+            after.status
+        }
+        Memory::Guarded(m) => {
+            let spans = &receivers.tables[0];
+            let after = guarded_event(&spans.base, &spans.low, &spans.high, m, rising, duration);
+            held.memory = Memory::Guarded(after.memory);
+            after.status
+        }
+    }
 }
 
 // Refusal 8. The record stays.
@@ -104,34 +123,49 @@ pub fn reset(receivers: &mut Receivers, place: usize) -> Answer
 pub fn event_total(receivers: &mut Receivers, place: usize, rising: bool, duration: u32) -> Report
     ensures { λ r. ⌜ (r ≡ totalAt (now (receivers .entry)) place (edge rising duration) .report) × (now (receivers .exit) ≡ totalAt (now (receivers .entry)) place (edge rising duration) .receivers) ⌝ }
 {
-    let at = place % 8;
-    let held = receivers.places[at];
-    let table = asked_table(held, place);
-    if table == NONE {
+    if place >= 8 {
         return no_report();
     }
-    let memory = held.memory;
-    let spans = &receivers.tables[table];
-    let after = total_in(
-        &spans.base,
-        &spans.low,
-        &spans.high,
-        memory,
-        rising,
-        duration,
-    );
-    receivers.places[at].memory = after.memory;
-    after.report
-}
-
-// By value again, through the record lent: whoever calls this one lends nothing.
-pub fn total_through(receivers: Receivers, place: usize, rising: bool, duration: u32) -> TotalAt
-    ensures { λ r. ⌜ r ≡ totalAt receivers place (edge rising duration) ⌝ }
-{
-    let mut lent = receivers;
-    let report = event_total(&mut lent, place, rising, duration);
-    TotalAt {
-        report,
-        receivers: lent,
+    let held = &mut receivers.places[place];
+    if !held.is_open {
+        return no_report();
+    }
+    match held.memory {
+        Memory::Nec(m) => {
+            let spans = &receivers.tables[0];
+            let after = nec_total(&spans.base, &spans.low, &spans.high, m, rising, duration);
+            held.memory = Memory::Nec(after.memory);
+            after.report
+        }
+        Memory::Rc5(m) => {
+            let spans = &receivers.tables[1];
+            let after = rc5_total(&spans.base, &spans.low, &spans.high, m, rising, duration);
+            held.memory = Memory::Rc5(after.memory);
+            after.report
+        }
+        Memory::Rc6(m) => {
+            let spans = &receivers.tables[2];
+            let after = rc6_total(&spans.base, &spans.low, &spans.high, m, rising, duration);
+            held.memory = Memory::Rc6(after.memory);
+            after.report
+        }
+        Memory::Sbp(m) => {
+            let spans = &receivers.tables[3];
+            let after = sbp_total(&spans.base, &spans.low, &spans.high, m, rising, duration);
+            held.memory = Memory::Sbp(after.memory);
+            after.report
+        }
+        Memory::Denon(m) => {
+            let spans = &receivers.tables[4];
+            let after = denon_total(&spans.base, &spans.low, &spans.high, m, rising, duration);
+            held.memory = Memory::Denon(after.memory);
+            after.report
+        }
+        Memory::Guarded(m) => {
+            let spans = &receivers.tables[0];
+            let after = guarded_total(&spans.base, &spans.low, &spans.high, m, rising, duration);
+            held.memory = Memory::Guarded(after.memory);
+            after.report
+        }
     }
 }

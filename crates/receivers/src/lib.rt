@@ -1,21 +1,18 @@
 // Document 02, request 06: up to eight receivers in one record, at one rate. They share the five protocols' spans, which are built once.
-// Here each call takes the record and gives it back. The module `lent` has the same calls over the record that the caller keeps.
+// The module `lent` has the calls, over the record that the caller keeps. Here each takes the record, lends it, and gives it back.
 pub mod lent;
 
 use boxes::Opened;
 use protocols::decoder::Memory;
-use protocols::decoder::event_in;
-use protocols::decoder::total_in;
 use reports::Report;
 use reports::Status;
 use spans::Answer;
 use spans::Spans;
 ghost use mathlib.Core.Path.{_≡_};
-ghost use mathlib.Core.Bool.{not};
 ghost use Prim.Native.Nat.{_<_};
 ghost use Rattle.spans.specs.Spans.{spansOf};
 ghost use Rattle.reports.specs.Edges.{edge};
-ghost use Rattle.receivers.specs.Receivers.{kindTaken, freshBy, placeOf, unused, withPlace, tableOf, made, openedAt, closedAt, eventAt, commandAt, resetAt, totalAt};
+ghost use Rattle.receivers.specs.Receivers.{kindTaken, freshBy, made, openedAt, closedAt, eventAt, commandAt, resetAt, totalAt};
 ghost use Rattle.receivers.specs.ReceiversSteps.{indexOf, answersAt, lowestIn, noReport, noStatus, storedOpened, storedClosed, storedReset, storedCommand};
 
 // What is opened: a protocol by its number, or NEC in guarded mode.
@@ -93,20 +90,6 @@ fn fresh(kind: Kind) -> Memory
     match kind {
         Kind::Protocol(protocol) => protocols::decoder::fresh_of(protocol),
         Kind::Guarded => Memory::Guarded(guarded::decoder::fresh()),
-    }
-}
-
-// Which of the five tables a memory's edges are looked up in.
-fn table_of(memory: Memory) -> usize
-    ensures { λ r. ⌜ (r ≡ tableOf memory) × (r < 5) ⌝ }
-{
-    match memory {
-        Memory::Nec(_) => 0,
-        Memory::Rc5(_) => 1,
-        Memory::Rc6(_) => 2,
-        Memory::Sbp(_) => 3,
-        Memory::Denon(_) => 4,
-        Memory::Guarded(_) => 0,
     }
 }
 
@@ -280,25 +263,12 @@ impl Receivers {
         }
     }
 
-    // The same record with something else at a place.
-    fn with(self, at: usize, place: Place) -> Receivers
-        requires { ⌜ at < 8 ⌝ }
-        ensures { λ r. ⌜ r ≡ withPlace self at place ⌝ }
-    {
-        let mut receivers = self;
-        receivers.places[at] = place;
-        receivers
-    }
-
     // Refusals: 2, then 9.
     pub fn open(self, kind: Kind) -> OpenedAt
         ensures { λ r. ⌜ r ≡ openedAt self kind ⌝ }
     {
-        let places = self.places;
-        let stored = opened_in(places, kind);
-        let answer = stored.answer;
-        let place = stored.place;
-        let receivers = self.with(stored.at, place);
+        let mut receivers = self;
+        let answer = lent::open(&mut receivers, kind);
         OpenedAt { answer, receivers }
     }
 
@@ -306,11 +276,8 @@ impl Receivers {
     pub fn close(self, place: usize) -> Changed
         ensures { λ r. ⌜ r ≡ closedAt self place ⌝ }
     {
-        let places = self.places;
-        let stored = closed_in(places, place);
-        let answer = stored.answer;
-        let place = stored.place;
-        let receivers = self.with(stored.at, place);
+        let mut receivers = self;
+        let answer = lent::close(&mut receivers, place);
         Changed { answer, receivers }
     }
 
@@ -318,36 +285,8 @@ impl Receivers {
     pub fn event(self, place: usize, rising: bool, duration: u32) -> EventAt
         ensures { λ r. ⌜ r ≡ eventAt self place (edge rising duration) ⌝ }
     {
-        let at = index_of(place);
-        let places = self.places;
-        let held = places[at];
-        if !answers(held, place) {
-            return EventAt {
-                status: no_status(),
-                receivers: self,
-            };
-        }
-        let memory = held.memory;
-        let table = table_of(memory);
-        let tables = self.tables;
-        let spans = tables[table];
-        let event = event_in(
-            &spans.base,
-            &spans.low,
-            &spans.high,
-            memory,
-            rising,
-            duration,
-        );
-        let status = event.status;
-        let memory = event.memory;
-        let receivers = self.with(
-            at,
-            Place {
-                is_open: true,
-                memory,
-            },
-        );
+        let mut receivers = self;
+        let status = lent::event(&mut receivers, place, rising, duration);
         EventAt { status, receivers }
     }
 
@@ -364,11 +303,8 @@ impl Receivers {
     pub fn reset(self, place: usize) -> Changed
         ensures { λ r. ⌜ r ≡ resetAt self place ⌝ }
     {
-        let places = self.places;
-        let stored = reset_in(places, place);
-        let answer = stored.answer;
-        let place = stored.place;
-        let receivers = self.with(stored.at, place);
+        let mut receivers = self;
+        let answer = lent::reset(&mut receivers, place);
         Changed { answer, receivers }
     }
 
@@ -376,36 +312,8 @@ impl Receivers {
     pub fn event_total(self, place: usize, rising: bool, duration: u32) -> TotalAt
         ensures { λ r. ⌜ r ≡ totalAt self place (edge rising duration) ⌝ }
     {
-        let at = index_of(place);
-        let places = self.places;
-        let held = places[at];
-        if !answers(held, place) {
-            return TotalAt {
-                report: no_report(),
-                receivers: self,
-            };
-        }
-        let memory = held.memory;
-        let table = table_of(memory);
-        let tables = self.tables;
-        let spans = tables[table];
-        let total = total_in(
-            &spans.base,
-            &spans.low,
-            &spans.high,
-            memory,
-            rising,
-            duration,
-        );
-        let report = total.report;
-        let memory = total.memory;
-        let receivers = self.with(
-            at,
-            Place {
-                is_open: true,
-                memory,
-            },
-        );
+        let mut receivers = self;
+        let report = lent::event_total(&mut receivers, place, rising, duration);
         TotalAt { report, receivers }
     }
 }

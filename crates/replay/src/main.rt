@@ -104,6 +104,9 @@ fn next(buf: &mut [u8], input: Input) -> Input {
         };
     }
     let got = libc::read(STDIN_FILENO, buf);
+    if got < 0 {
+        io::write_all(STDERR_FILENO, b"replay: the input cannot be read\n");
+    }
     let end = io::count(got, buf);
     if 0 < end && 0 < buf.len() {
         return Input {

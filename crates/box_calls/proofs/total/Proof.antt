@@ -8,7 +8,7 @@ use Rattle.box_calls.proofs.total.Tie as tie
 
 returns : tie.Need-returns
 returns c =
-    said-as _ (c .said .ensures) (c .before .of-report .ensures) ∙ ap (λ (one : TotalAt). totalBy one) (c .before .before .total-through .ensures)
+    said-as _ (c .said .ensures) (c .before .of-report .ensures) ∙ ap (λ (one : TotalAt). totalBy one) (c .before .before .event-total .ensures)
 
 pub total-spec : {M : Type 1} → statement M
 total-spec = tie.close (tie.spec (λ c κs. tt) (λ c κs. tt) (λ c κs. tt) returns)

@@ -1,5 +1,5 @@
 -- `mode2::digits_read` meets its contract. The loop's invariant: what is read and what is left scan as the whole. Assumes nothing.
-use mathlib.Core.Path.{_≡_, refl, sym, ap, _∙_}
+use mathlib.Core.Path.{_≡_, refl, sym, _∙_}
 use Prim.Native.Nat.{_-_, _≤_, _<_}
 use native.Mathlib.Omega.{arith}
 use borrow.Author.Needs.{needs}
@@ -7,7 +7,6 @@ use borrow.Author.Tests.{not-false}
 use lib.ListN.{length, drop}
 use Rattle.mode2_lines.proofs.Bytes.{digit-from}
 use Rattle.mode2.specs.Scans.{scanFrom}
-use Rattle.mode2.specs.declared.ReadOn.{ReadOn}
 use Rattle.mode2.proofs.Words.{digit-scan}
 use Rattle.mode2.proofs.digits_read.Statement.{statement}
 use Rattle.mode2.proofs.digits_read.Tie as tie
@@ -20,9 +19,6 @@ Inv-loop text at is-space seen₀ number₀ i₀ seen number i =
 
 abbrev μ-loop : tie.MeasureT-loop
 μ-loop text at is-space seen₀ number₀ i₀ seen number i = length text - i
-
-returns : tie.Need-returns Inv-loop μ-loop
-returns c = ap (λ (r : ReadOn). scanFrom (r .line) (r .at) (drop (r .at) (c .before .before .before .before .args .text .now))) (c .read-on .ensures)
 
 sub-digit-on : tie.Need-sub-digit-on Inv-loop μ-loop
 sub-digit-on c = digit-from (c .before .before .before .before .loop .seen) _ (sym (c .before .is-digit .ensures) ∙ not-false _ (c .if2 .left))
@@ -44,15 +40,14 @@ digits-read-spec =
     (tie.spec
     Inv-loop
     μ-loop
-    (λ c κs. search needs)
-    returns
+    (λ c. refl)
     (λ c. (refl, omega arith, omega arith))
     (λ c. search needs)
     (λ c κs. search needs)
-    (λ c. c .before .before .before .before .loop .inv .0)
     sub-digit-on
     (λ c κs. search needs)
     (λ c. search needs)
     (λ c. search needs)
     loop-again
-    (λ c. c .before .loop .inv .0))
+    (λ c. c .before .loop .inv .0)
+    (λ c. c .before .before .before .before .loop .inv .0))

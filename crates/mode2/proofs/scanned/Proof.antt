@@ -1,51 +1,29 @@
--- `mode2::scanned` meets its contract. The loop's invariant: what is read and what is left scan as the whole. Assumes nothing.
-use Prim.Native.Nat.{_-_}
-use mathlib.Core.Path.{_≡_, refl, _∙_}
+-- `mode2::scanned` meets its contract. Assumes nothing.
+use mathlib.Core.Path.{_≡_, _∙_}
+use mathlib.Core.List.{List}
+use Prim.Native.Nat.{ℕ}
 use borrow.Author.Needs.{needs}
-use lib.ListN.{length, drop}
+use lib.ListN.{drop}
+use Rattle.mode2_lines.specs.declared.Line.{Line}
 use Rattle.mode2.specs.Scans.{scanFrom}
-use Rattle.mode2.proofs.Lines.{scan-on, scan-ended, scan-out}
+use Rattle.mode2.specs.declared.ReadOn.{ReadOn}
+use Rattle.mode2.specs.declared.Scan.{Scan}
+use Rattle.mode2.proofs.Words.{scanOn}
 use Rattle.mode2.proofs.scanned.Statement.{statement}
 use Rattle.mode2.proofs.scanned.Tie as tie
 
-abbrev Inv-loop : tie.InvT-loop
-Inv-loop text at so-far₀ i₀ so-far i = scanFrom so-far i (drop i text) ≡ scanFrom so-far₀ i₀ (drop i₀ text)
+-- the word, then the digits, then the rest
+in-parts
+    : (text : List ℕ) (line : Line) (at : ℕ) (word digits : ReadOn) (r : Scan) → scanOn text word ≡ scanFrom line at (drop at text) → scanOn text digits ≡ scanOn text word
+    → r ≡ scanOn text digits → r ≡ scanFrom line at (drop at text)
+in-parts text line at word digits r e f g = g ∙ (f ∙ e)
 
-abbrev μ-loop : tie.MeasureT-loop
-μ-loop text at so-far₀ i₀ so-far i = length text - i
+returns : tie.Need-returns
+returns c = let digits = c .before .before .before in in-parts _ _ _ _ _ _ (digits .before .word-read .ensures) (digits .digits-read .ensures) (c .newline-read .ensures)
 
-returns : tie.Need-returns Inv-loop μ-loop
-returns c =
-    let inside = c .before .before in
-    let loop = inside .before .loop in
-    let digits = inside .before .before .before in
-    scan-ended _ (loop .so-far) (loop .i) (inside .loop-test .taken) _ refl (c .if1 .taken) ∙ (loop .inv ∙ (digits .digits-read .ensures ∙ digits .before .word-read .ensures))
-
-loop-again : tie.Need-loop-again Inv-loop μ-loop
-loop-again c =
-    let inside = c .before .before .before in
-    let loop = inside .before .loop in
-    scan-on _ (loop .so-far) (loop .i) (inside .loop-test .taken) _ refl (c .before .if1 .left) _ (c .fed .ensures) ∙ loop .inv
-
-returns-2 : tie.Need-returns-2 Inv-loop μ-loop
-returns-2 c =
-    let digits = c .before .before .before in
-    scan-out _ _ _ (c .loop-test .left) ∙ (c .before .loop .inv ∙ (digits .digits-read .ensures ∙ digits .before .word-read .ensures))
+returns-2 : tie.Need-returns-2
+returns-2 c = let digits = c .before .before .before in in-parts _ _ _ _ _ _ (digits .before .word-read .ensures) (digits .digits-read .ensures) (c .fed-on .ensures)
 
 pub scanned-spec : {M : Type 1} → statement M
 scanned-spec =
-    tie.close
-    (tie.spec
-    Inv-loop
-    μ-loop
-    (λ c κs. search needs)
-    (λ c κs. search needs)
-    (λ c. refl)
-    (λ c. search needs)
-    (λ c. search needs)
-    returns
-    (λ c κs. search needs)
-    (λ c. search needs)
-    (λ c. search needs)
-    loop-again
-    returns-2)
+    tie.close (tie.spec (λ c κs. search needs) (λ c κs. search needs) (λ c κs. search needs) returns (λ c κs. search needs) returns-2)

@@ -1,16 +1,38 @@
--- `receivers::Receivers::open` meets its contract: it stores what opened_in gives. Assumes nothing.
-use Rattle.receivers.proofs.Places.{opened-below, opens}
-use Rattle.receivers.proofs.Receivers.open.Statement.{statement}
-use Rattle.receivers.proofs.Receivers.open.Tie as tie
+-- `receivers::Receivers::open` meets its contract: the walk of a call by value. Assumes nothing.
+use mathlib.Core.Path.{refl}
+use mathlib.Core.List.{[], _∷_}
+use denote.Struct.Laws as LL
+use Rattle.receivers.specs.Receivers.{openedAt}
+use Rattle.receivers.proofs.OpenedAt as O
+use Rattle.receivers.proofs.OpenedAt.Laws as O′
+use Rattle.receivers.proofs.Record.{mach, memory-ty}
+use Rattle.receivers.proofs.Values.{a-kind, an-opening}
+use Rattle.receivers.proofs.ByValuePlace.{Giving, by-value-spec}
+use Rattle.receivers.proofs.lent.«open».Symbol as lent
+use Rattle.receivers.proofs.lent.«open».Met as lent-thm
+use Rattle.receivers.proofs.Receivers.«open».Key as key
+use Rattle.receivers.proofs.Receivers.«open».Statement as stated
+use Rattle.receivers.proofs.Receivers.«open».Code as code
 
-with-requires : tie.Need-with-requires
-with-requires c κs = rw (c .before .opened-in .ensures) (opened-below _ _)
+unfoldable giving : Giving
+unfolding memory-ty a-kind an-opening
+giving = record {
+  Arg = a-kind;
+  same = λ x. tt;
+  silent = λ lifetimes 𝓤 H A W κs x f. refl;
+  Answer = an-opening;
+  lent = lent.name;
+  answered = λ h x. openedAt h x .answer;
+  after = λ h x. openedAt h x .receivers;
+  Row = O.the-row;
+  name = O.the-type .name;
+  given = λ r z. record { answer = r; receivers = z };
+  given-is = λ r z a p. ((an-opening .word r ∷ [], (mach z ∷ [], tt)), (refl, (a, (p, tt))));
+  fits = λ 𝓤 H A W d v is. LL.lawful O.the-type O′.the-laws 𝓤 H A W .typed d (v ∷ []) is .0;
+  makes = λ 𝓤 H A W. LL.makes O.the-type O′.the-plain 𝓤 H A;
+}
 
-returns : tie.Need-returns
-returns c =
-    let stored = c .before .before in
-    let args = stored .before .before .args in
-    simp (c .with .ensures, stored .opened-in .ensures, opens (args .self) (args .kind))
-
-pub open-spec : {M : Type 1} → statement M
-open-spec = tie.close (tie.spec (λ c κs. tt) with-requires returns)
+pub open-spec : {M : Type 1} → stated.statement M
+unfolding giving memory-ty a-kind an-opening code.routine
+open-spec 𝓤 H 𝓜 𝓖 𝓡 =
+    by-value-spec giving 𝓤 H 𝓜 𝓖 𝓡 code.env key.name code.function refl (code.unfolded 𝓤 H 𝓜 𝓡) lent.routine code.calls-receivers·lent·open (lent-thm.met 𝓤 H 𝓜 𝓖 𝓡)

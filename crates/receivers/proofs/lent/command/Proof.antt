@@ -1,12 +1,9 @@
 -- `receivers::lent::command` meets its contract: the place is stored as it was. Assumes nothing.
-use mathlib.Core.Path.{_≡_, refl, sym, ap, subst, _∙_}
-use Prim.Native.Nat.{ℕ}
-use mathlib.Core.List.{[], _∷_, List}
+use mathlib.Core.Path.{refl, sym, ap, subst}
+use mathlib.Core.List.{[], _∷_}
 use denote.Laws.{Is}
 use denote.Steps.{only}
 use denote.Struct.Laws as LL
-use Rattle.receivers.specs.declared.Receivers.{Receivers}
-use Rattle.receivers.specs.declared.StoredReport.{StoredReport}
 use Rattle.receivers.specs.Receivers.{commandAt}
 use Rattle.receivers.specs.ReceiversSteps.{storedCommand}
 use Rattle.receivers.proofs.StoredReport as O

@@ -1,12 +1,10 @@
 -- `receivers::lent::open` meets its contract: what opened_in answers of the places is stored. Assumes nothing.
-use mathlib.Core.Path.{_≡_, refl, sym, ap, subst, _∙_}
-use Prim.Native.Nat.{ℕ}
-use mathlib.Core.List.{[], _∷_, List}
+use mathlib.Core.Path.{refl, sym, ap, subst}
+use mathlib.Core.List.{[], _∷_}
 use denote.Laws.{Is}
 use denote.Steps.{only}
 use denote.Struct.Laws as LL
 use Rattle.receivers.specs.declared.Receivers.{Receivers}
-use Rattle.receivers.specs.declared.StoredOpened.{StoredOpened}
 use Rattle.receivers.specs.Receivers.{openedAt}
 use Rattle.receivers.specs.ReceiversSteps.{storedOpened}
 use Rattle.boxes.specs.Box.{Answered}
