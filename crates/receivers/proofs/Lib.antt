@@ -17,5 +17,6 @@ pub mod Stepping
 pub mod LentArm
 pub mod LentEdges
 pub mod LentPlace
+pub mod GivenBack
 pub mod ByValueEdges
 pub mod ByValuePlace

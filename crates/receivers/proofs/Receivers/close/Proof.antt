@@ -1,11 +1,8 @@
 -- `receivers::Receivers::close` meets its contract: the walk of a call by value. Assumes nothing.
 use mathlib.Core.Path.{refl}
-use mathlib.Core.List.{[], _∷_}
-use denote.Struct.Laws as LL
 use Rattle.receivers.specs.Receivers.{closedAt}
-use Rattle.receivers.proofs.Changed as O
-use Rattle.receivers.proofs.Changed.Laws as O′
-use Rattle.receivers.proofs.Record.{mach, memory-ty}
+use Rattle.receivers.proofs.Record.{memory-ty}
+use Rattle.receivers.proofs.GivenBack.{changed-back}
 use Rattle.receivers.proofs.Values.{a-number, an-answer}
 use Rattle.receivers.proofs.ByValuePlace.{Giving, by-value-spec}
 use Rattle.receivers.proofs.lent.close.Symbol as lent
@@ -15,7 +12,7 @@ use Rattle.receivers.proofs.Receivers.close.Statement as stated
 use Rattle.receivers.proofs.Receivers.close.Code as code
 
 unfoldable giving : Giving
-unfolding memory-ty a-number an-answer
+unfolding changed-back memory-ty a-number an-answer
 giving = record {
   Arg = a-number;
   same = λ x. tt;
@@ -24,15 +21,10 @@ giving = record {
   lent = lent.name;
   answered = λ h x. closedAt h x .answer;
   after = λ h x. closedAt h x .receivers;
-  Row = O.the-row;
-  name = O.the-type .name;
-  given = λ r z. record { answer = r; receivers = z };
-  given-is = λ r z a p. ((an-answer .word r ∷ [], (mach z ∷ [], tt)), (refl, (a, (p, tt))));
-  fits = λ 𝓤 H A W d v is. LL.lawful O.the-type O′.the-laws 𝓤 H A W .typed d (v ∷ []) is .0;
-  makes = λ 𝓤 H A W. LL.makes O.the-type O′.the-plain 𝓤 H A;
+  Back = changed-back;
 }
 
 pub close-spec : {M : Type 1} → stated.statement M
-unfolding giving memory-ty a-number an-answer code.routine
+unfolding giving changed-back memory-ty a-number an-answer code.routine
 close-spec 𝓤 H 𝓜 𝓖 𝓡 =
     by-value-spec giving 𝓤 H 𝓜 𝓖 𝓡 code.env key.name code.function refl (code.unfolded 𝓤 H 𝓜 𝓡) lent.routine code.calls-receivers·lent·close (lent-thm.met 𝓤 H 𝓜 𝓖 𝓡)
