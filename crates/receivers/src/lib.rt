@@ -1,5 +1,5 @@
 // Document 02, request 06: up to eight receivers in one record, at one rate. They share the five protocols' spans, which are built once.
-// The module `lent` has the calls, over the record that the caller keeps. Here each takes the record, lends it, and gives it back.
+// The module `lent` has the calls, over the record that the caller keeps. Here each takes the record, lends it, and gives it back; `command` reads it and gives none back.
 pub mod lent;
 
 use boxes::Opened;
