@@ -1,6 +1,0 @@
--- `rc5::decoder::Rc5Decoder::reset` meets its contract, from that of reset_in. Assumes nothing.
-use Rattle.rc5.proofs.decoder.Rc5Decoder.reset.Statement.{statement}
-use Rattle.rc5.proofs.decoder.Rc5Decoder.reset.Tie as tie
-
-pub reset_spec : {M : Type 1} → statement M
-reset_spec = tie.close (tie.spec (λ c κs. tt) (λ c. simp c.reset-in.ensures))

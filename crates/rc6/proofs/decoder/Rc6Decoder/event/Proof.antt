@@ -1,6 +1,0 @@
--- `rc6::decoder::Rc6Decoder::event` meets its contract, from that of event_in. Assumes nothing.
-use Rattle.rc6.proofs.decoder.Rc6Decoder.event.Statement.{statement}
-use Rattle.rc6.proofs.decoder.Rc6Decoder.event.Tie as tie
-
-pub event_spec : {M : Type 1} → statement M
-event_spec = tie.close (tie.spec (λ c κs. tt) (λ c κs. tt) (λ c. simp (c.again.ensures, c.before.before.event-in.ensures)))
