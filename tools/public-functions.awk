@@ -5,6 +5,7 @@
 BEGIN {
     split("mathlib", libraries, " ")
     known["use mathlib.Core.Path.{refl}"]
+    known["use Rattle.std.proofs.Common.{refl}"]
     total = short = 0
     if (table) print "| call | contract | theorem |\n|---|---|---|"
     for (i = 1; i < ARGC; i++) read_crate(ARGV[i])
@@ -27,10 +28,13 @@ function read_crate(lib,   part, i) {
     for (i = 1; i <= modules; i++) read_source(i)
 }
 
-# ---- the theorems of a crate: theorem[PATH] is the name of each function's
+# ---- the theorems of a crate: theorem[PATH] is the name of each function's. A function F of a PATH has three names there: F is its contract,
+# F_symbol its code and its name, F_met that it meets the contract.
 
 function read_theorems(   text, whole, at, number, i) {
     split("", path)
+    split("", symbol)
+    split("", met)
     split("", stated)
     split("", theorem)
     # a module of ours under a library's name would be read in place of the library
@@ -53,31 +57,51 @@ function read_theorems(   text, whole, at, number, i) {
     close(list)
 }
 
-function take_line(at, text,   own, part, alias) {
-    own = "use Rattle·" crate "·proofs.proofs."
+function take_line(at, text,   alias) {
     if (text == "" || text in known) return
-    if (text ~ /^use Rattle·determined[.]specs[.]Determined[.][{]Fixed(, [^ \t,{}]+)+[}]$/) return
-    if (index(text, own) == 1 && split(substr(text, length(own) + 1), part, " as ") == 2)
-        if (part[1] ~ /^[A-Za-z0-9_.]+$/ && part[2] ~ /^[a-z0-9-]+$/ && !(part[2] in path)) {
-            path[part[2]] = part[1]
-            return
-        }
-    if (match(text, /^[a-z0-9-]+-fixed /)) {
+    if (text ~ /^use Rattle[.]determined[.]specs[.]Determined[.][{]Fixed(, [^ \t,{}]+)+[}]$/) return
+    if (names(text, "specs.contracts.", "", "", path) || names(text, "proofs.", ".Symbol", "_symbol", symbol) || names(text, "proofs.", ".Met", "_met", met)) return
+    if (match(text, /^[a-z0-9_]+_fixed /)) {
         alias = substr(text, 1, RLENGTH - 7)
-        if (alias in path && text == statement(alias)) {
+        if (is_one(alias) && text == statement(alias)) {
             stated[alias]
             return
         }
-        if (alias in stated && index(text, alias "-fixed M 𝓤 H 𝓜 𝓖 𝓡 = ") == 1) {
-            theorem[path[alias]] = alias "-fixed"
+        if (alias in stated && index(text, alias "_fixed M 𝓤 𝓛 𝓜 𝓡 = ") == 1) {
+            theorem[path[alias]] = alias "_fixed"
             return
         }
     }
     fall(list ":" at, "this is not understood: " text)
 }
 
+# Whether an import names a module of a function of this crate, with a name that no other has: that goes to of[F].
+function names(text, before, after, ending, of,   own, part, f) {
+    own = "use Rattle." crate "." before
+    if (index(text, own) != 1 || split(substr(text, length(own) + 1), part, " as ") != 2) return 0
+    if (!cut(part, 1, after) || part[1] !~ /^[A-Za-z0-9_.]+$/ || part[2] !~ /^[a-z0-9_]+$/ || part[2] in path) return 0
+    f = part[2]
+    if (!cut(part, 2, ending)) return 0
+    if (ending != "") path[f] = ""
+    of[part[2]] = part[1]
+    return 1
+}
+
+# Cuts an ending off, where it is there.
+function cut(part, i, ending,   at) {
+    at = length(part[i]) - length(ending)
+    if (at < 1 || substr(part[i], at + 1) != ending) return 0
+    part[i] = substr(part[i], 1, at)
+    return 1
+}
+
+# Whether the three names of a function are of one path.
+function is_one(f) {
+    return f in path && path[f] != "" && f in symbol && symbol[f] == path[f] && f in met && met[f] == path[f]
+}
+
 function statement(f) {
-    return f "-fixed : Fixed " f ".ended (λ M. " f ".clauses) " f ".Symbol.routine"
+    return f "_fixed : Fixed " f ".ended (λ M 𝓤 𝓛. " f ".clauses 𝓛) " f "_symbol.code " f "_symbol.name"
 }
 
 # ---- the modules of a crate
@@ -118,9 +142,16 @@ function read_mod(is_public,   name, below) {
 # ---- the items of a source
 
 function read_item(w, type,   is_public) {
-    is_public = w == "pub" || w == "#"
-    if (w == "pub") w = word()
-    if (w == "#") w = follows("[ no_mangle ] pub extern") ? "extern" : ""
+    if (w == "#" && rest ~ /^!/) {
+        if (follows("! [ tactic (")) pass_over()
+        follows("]")
+        return
+    }
+    exported = 0
+    while (w == "#") w = pass_attribute()
+    is_public = w == "pub"
+    if (is_public) w = word()
+    if (exported && !(w == "extern" && is_public)) return refuse(w)
     if (w == "extern" && is_public) w = follows("\"C\" fn") ? "fn" : ""
     if (w == "fn") read_function(is_public, type)
     else if (type != "") refuse(w)
@@ -130,6 +161,27 @@ function read_item(w, type,   is_public) {
     else if (w == "impl" && !is_public) read_impl()
     else if (w == "ghost" && !is_public) pass_ghost_use()
     else refuse(w)
+}
+
+# An attribute that asks for tactics or to be put in line, derives or exports; the word after it.
+function pass_attribute(   w) {
+    if (!follows("[")) return ""
+    w = word()
+    if (w == "unsafe") {
+        exported = 1
+        return follows("( no_mangle ) ]") ? word() : ""
+    }
+    if (w == "inline" && rest ~ /^\]/) return follows("]") ? word() : ""
+    if (w !~ /^(tactic|derive|inline)$/) return refuse(w)
+    if (!follows("(")) return ""
+    if (w == "derive") pass_derives()
+    else pass_over()
+    return follows("]") ? word() : ""
+}
+
+# A derive gives a type public functions, whose contracts are the kit's. So each derive that may be taken is named here.
+function pass_derives(   w) {
+    while ((w = word()) != ")" && !lost) if (w !~ /^(Clone|Copy|,)$/) refuse(w)
 }
 
 # Of a type, or of one that holds a reference: `impl<'a> Type<'a>`.
@@ -173,11 +225,10 @@ function hold(at, name, clauses) {
     else if (table) print_row(name)
 }
 
-# The contract as the source states it, without the brackets about its clauses.
+# The contract as the source states it, without the names of its clauses and the brackets about them.
 function print_row(name) {
-    gsub(/ *λ [a-z_]+[.] ⌜ /, " ", contract)
-    gsub(/ ⌝ */, "", contract)
-    gsub(/^ |; *$/, "", contract)
+    gsub(/ *; +/, "; ", contract)
+    gsub(/^ +|; *$/, "", contract)
     print "| `" crate "::" dotless(name) "` | `" contract "` | `" theorem[name] "` |"
 }
 
