@@ -212,6 +212,7 @@ function read_function(is_public, type,   name, at, w, clauses) {
     pass_over()
     if (lost || !is_public) return
     if (is_open) hold(at, prefix type name, clauses)
+    else if (exported) fall(file ":" at, type name " is exported from a private module")
     else if (type != "") fall(file ":" at, type name " is a public method in a private module")
 }
 
