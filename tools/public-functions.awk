@@ -1,19 +1,27 @@
 # Reads the libraries whose src/lib.rt are named, from the folder that holds crates/. tools/public-functions says what for.
-# It knows the items of a source that `read_item` names, and the lines of a Determined.antt that `take_line` names. It reads
-# every file of a library whole, and refuses anything else with its place.
+# It knows the items of a source that `read_item` names, the lines of a Determined.antt that `take_line` names, and those of a Generic.antt that
+# `take_generic` names. It reads every file of a library whole, and refuses anything else with its place.
 
 BEGIN {
     split("mathlib", libraries, " ")
     known["use mathlib.Core.Path.{refl}"]
     known["use Rattle.std.proofs.Common.{refl}"]
+    known["use Rattle.std.specs.Prelude.{◌≡◌, refl}"]
+    # an impl's machine is the definition
+    known["machine_of_impl : impl.ghosts.machine ≡ machine"]
+    known["machine_of_impl = refl"]
     total = short = 0
-    if (table) print "| call | contract | theorem |\n|---|---|---|"
-    for (i = 1; i < ARGC; i++) read_crate(ARGV[i])
+    # First for the traits alone: an impl may stand in a crate that comes before its trait's.
+    for (is_first = 1; is_first >= 0; is_first--) {
+        if (table && !is_first) print "| call | contract | theorem |\n|---|---|---|"
+        for (i = 1; i < ARGC; i++) read_crate(ARGV[i])
+    }
     if (!table || short) print total " public functions, " short " fall short"
     exit (short > 0 || total == 0)
 }
 
 function fall(where, what) {
+    if (is_first) return
     print where ": " what
     short++
 }
@@ -21,6 +29,12 @@ function fall(where, what) {
 function read_crate(lib,   part, i) {
     split(lib, part, "/")
     crate = part[2]
+    split("", theorem)
+    split("", theorem_at_every_type)
+    is_generic_list = 1
+    list = "crates/" crate "/proofs/Generic.antt"
+    read_theorems()
+    is_generic_list = 0
     list = "crates/" crate "/proofs/Determined.antt"
     read_theorems()
     modules = 0
@@ -28,15 +42,14 @@ function read_crate(lib,   part, i) {
     for (i = 1; i <= modules; i++) read_source(i)
 }
 
-# ---- the theorems of a crate: theorem[PATH] is the name of each function's. A function F of a PATH has three names there: F is its contract,
-# F_symbol its code and its name, F_met that it meets the contract.
+# ---- the theorems of a crate: theorem[PATH] is the name of each function's, and theorem_at_every_type[PATH] that of a generic one. A function F of a PATH has
+# three names there: F is its contract, F_symbol its code and its name, F_met that it meets the contract.
 
 function read_theorems(   text, whole, at, number, i) {
     split("", path)
     split("", symbol)
     split("", met)
     split("", stated)
-    split("", theorem)
     # a module of ours under a library's name would be read in place of the library
     for (i in libraries) path[libraries[i]] = ""
     whole = ""
@@ -59,7 +72,9 @@ function read_theorems(   text, whole, at, number, i) {
 
 function take_line(at, text,   alias) {
     if (text == "" || text in known) return
+    if (is_generic_list) return take_generic(at, text)
     if (text ~ /^use Rattle[.]determined[.]specs[.]Determined[.][{]Fixed(, [^ \t,{}]+)+[}]$/) return
+    if (text == "use Rattle." crate ".specs.Decoder.{machine}") return
     if (names(text, "specs.contracts.", "", "", path) || names(text, "proofs.", ".Symbol", "_symbol", symbol) || names(text, "proofs.", ".Met", "_met", met)) return
     if (match(text, /^[a-z0-9_]+_fixed /)) {
         alias = substr(text, 1, RLENGTH - 7)
@@ -73,6 +88,46 @@ function take_line(at, text,   alias) {
         }
     }
     fall(list ":" at, "this is not understood: " text)
+}
+
+# Of generic functions: the statement is at every type with every impl of its bounds. The bounds' modules stand under the names that the statements use.
+function take_generic(at, text,   alias, said) {
+    if (text ~ /^use Rattle[.]determined[.]specs[.]Determined[.][{]FixedWhere(, [^ \t,{}]+)+[}]$/) return
+    if (text ~ /^use (seplogic|types|prog|contract|denote|mir)[.][A-Za-z.]+[.][{][A-Za-z_, ◌⊑]+[}]$/ && text !~ / as |FixedWhere/) return
+    if (text ~ /^use Rattle[.]std[.]specs[.]Prelude[.][{][a-z\[\]◌∷≡, ]+[}]$/) return
+    if (text == "use Rattle.std.specs.declared.clone.Clone as clone" || text == "use Rattle.std.specs.contracts.clone.Clone.TheBound as clone_bound") return
+    if (text ~ /^use Rattle[.][a-z_]+[.]specs[.]declared[.]([a-z_]+[.])?[A-Z][A-Za-z]+ as [a-z]+$/ || text ~ /^use Rattle[.][a-z_]+[.]specs[.]contracts[.]([a-z_]+[.])?[A-Z][A-Za-z]+[.]TheBound as [a-z]+_bound$/) return
+    if (names(text, "specs.contracts.", "", "", path) || names(text, "proofs.", ".Symbol", "_symbol", symbol) || names(text, "proofs.", ".Met", "_met", met)) return
+    if (text ~ /^module _ [{]M : Type 1[}] [(]𝓤 : Ura M[)] [(]𝓛 : Logic 𝓤[)] [(]𝓜 : Model 𝓤 𝓛[.]H[)] [(]𝓡 : Running 𝓤 𝓛[.]H 𝓜[)] [(]T : RattleType[)] [(]laws : Laws T[)] [(]copy : IsCopy T[)] [(]P : [a-z]+[.]Ghosts T[.]Denot[)] [(]d : Dict[)] [(]C : clone[.]Ghosts T[.]Denot[)] [(]e : Dict[)] where$/) return
+    if (text ~ /^  abbrev Bounds : Type 2$/ || text ~ /^  Bounds = [a-z]+_bound[.]Met 𝓛 𝓜 𝓡 𝓡[.]env T P d C e × clone_bound[.]Met 𝓛 𝓜 𝓡 𝓡[.]env T C e$/) return
+    said = text
+    sub(/^  (pub )?/, "", said)
+    if (match(said, /^[a-z0-9_]+_fixed /)) {
+        alias = substr(said, 1, RLENGTH - 7)
+        if (is_one(alias) && is_generic_statement(alias, said)) {
+            stated[alias]
+            return
+        }
+        if (alias in stated && said ~ ("^" alias "_fixed (N f )?= ")) {
+            theorem_at_every_type[path[alias]] = alias "_fixed"
+            return
+        }
+    }
+    fall(list ":" at, "this is not understood: " text)
+}
+
+# The bounds of one more trait are N and f.
+function is_generic_statement(f, said,   i, one, more, name) {
+    split("T P d C e|T P d C e N f", one, "|")
+    split("|(N : [a-z]+[.]Ghosts T[.]Denot) (f : Dict) → ", more, "|")
+    for (i = 1; i <= 2; i++) {
+        name = f "_fixed : " (i == 1 ? "" : "[(]N : [a-z]+[.]Ghosts T[.]Denot[)] [(]f : Dict[)] → ") \
+            "FixedWhere 𝓛 [(]" f "[.]ended " one[i] "[)] [(]" f "[.]clauses " one[i] " 𝓛 𝓜[.]mem 𝓡[.]returns[)] [(]Wired 𝓡[.]env " f "_symbol[.]code × Bounds" \
+            (i == 1 ? "" : " × [a-z]+_bound[.]Met 𝓛 𝓜 𝓡 𝓡[.]env T N f P d C e") "[)] [(]λ κs[.] lft_at [0-9]+ [0-9]+ tt κs ⊑ T[.]lives[)] " \
+            "[(]𝓡[.]run [(]𝓡[.]env [(]" f "_symbol[.]name [(]bounded [(]a_type ∷ \\[\\][)] [(]T, tt[)] [(]dcons d [(]dcons e " (i == 1 ? "dnil[)]" : "[(]dcons f dnil[)][)]") "[)][)][)][)][)]"
+        if (said ~ ("^" name "$")) return 1
+    }
+    return 0
 }
 
 # Whether an import names a module of a function of this crate, with a name that no other has: that goes to of[F].
@@ -115,6 +170,8 @@ function add_module(source, folder, prefix, is_open) {
 }
 
 function read_source(i,   w) {
+    trait = of_trait = ""
+    at_every_type = 0
     file = source_of[i]
     folder = folder_of[i]
     prefix = prefix_of[i]
@@ -154,10 +211,13 @@ function read_item(w, type,   is_public) {
     if (exported && !(w == "extern" && is_public)) return refuse(w)
     if (w == "extern" && is_public) w = follows("\"C\" fn") ? "fn" : ""
     if (w == "fn") read_function(is_public, type)
+    else if (w == "ghost" && type != "" && !is_public) pass_ghost_member()
+    else if (w ~ /^(const|type)$/ && type != "" && (trait != "" || of_trait != "")) pass_declaration(w, 0)
     else if (type != "") refuse(w)
     else if (w == "use" && is_public) refuse("a re-export")
-    else if (w ~ /^(use|const|type|struct|enum)$/) pass_declaration(w)
+    else if (w ~ /^(use|const|type|struct|enum)$/) pass_declaration(w, is_public)
     else if (w == "mod") read_mod(is_public)
+    else if (w == "trait") read_trait()
     else if (w == "impl" && !is_public) read_impl()
     else if (w == "ghost" && !is_public) pass_ghost_use()
     else refuse(w)
@@ -181,56 +241,124 @@ function pass_attribute(   w) {
 
 # A derive gives a type public functions, whose contracts are the kit's. So each derive that may be taken is named here.
 function pass_derives(   w) {
-    while ((w = word()) != ")" && !lost) if (w !~ /^(Clone|Copy|,)$/) refuse(w)
+    while ((w = word()) != ")" && !lost) if (w !~ /^(Clone|Copy|Debug|PartialEq|Eq|Drop|,)$/) refuse(w)
 }
 
-# Of a type, or of one that holds a reference: `impl<'a> Type<'a>`.
-function read_impl(   w, type, lifetime) {
+# Parameters between < and >, the first of which is read; whether one of them is a type.
+function pass_parameters(   w, depth, is_type, last) {
+    for (depth = 1; depth > 0 && !lost;) {
+        w = word()
+        if (w == "" || is_item(w)) return refuse(w)
+        if (w == "<") depth++
+        else if (w == ">") depth--
+        else if (depth == 1 && w ~ /^[A-Z]/ && last != ":" && last != "+") is_type = 1
+        last = w
+    }
+    return is_type
+}
+
+# Of a type, `impl Type`, of one that holds a reference or a type, `impl<'a> Type<'a>`, `impl<M: Protocol> Decoder<M>`, or of a trait for a type.
+function read_impl(   w, type) {
+    at_every_type = 0
+    of_trait = ""
     type = word()
     if (type == "<") {
-        lifetime = word()
-        if (lifetime !~ /^'[a-z]+$/) return refuse(lifetime)
-        if (!follows(">")) return
+        at_every_type = pass_parameters()
         type = word()
-        if (!follows("< " lifetime " >")) return
     }
-    if (!follows("{")) return
+    if (type !~ /^[A-Z][A-Za-z0-9]*$/) return refuse(type)
+    w = word()
+    if (w == "<") {
+        pass_parameters()
+        w = word()
+    }
+    if (w == "for") {
+        of_trait = type
+        type = word()
+        if (type !~ /^[A-Z][A-Za-z0-9]*$/) return refuse(type)
+        if (!is_first && !(of_trait in is_trait)) return refuse(of_trait)
+        is_of_public = (crate "." type) in is_public_type
+        type = type of_trait
+        w = word()
+    }
+    if (w != "{") return refuse(w)
     while ((w = word()) != "}" && !lost) read_item(w, type ".")
+    at_every_type = 0
+    of_trait = ""
 }
 
-function read_function(is_public, type,   name, at, w, clauses) {
+# A trait of ours: each method has its contract there, and each impl of a public type is held to a theorem.
+function read_trait(   w) {
+    trait = word()
+    if (trait !~ /^[A-Z][A-Za-z0-9]*$/) return refuse(trait)
+    is_trait[trait]
+    while ((w = word()) != "{" && !lost) if (w !~ /^[:+A-Za-z0-9_]+$/ || is_item(w)) return refuse(w)
+    while ((w = word()) != "}" && !lost) read_item(w, trait ".")
+    trait = ""
+}
+
+function read_function(is_public, type,   name, at, w, clauses, is_every) {
     name = word()
     at = line
     contract = ""
-    while ((w = word()) != "{" && !lost) {
+    is_every = at_every_type
+    if (rest ~ /^</) {
+        word()
+        if (pass_parameters()) is_every = 1
+    }
+    while ((w = word()) != "{" && !(w == ";" && trait != "") && !lost) {
         if (w ~ /^(ensures|requires|ghost)$/) {
             clauses = clauses " " w
             pass_clause()
         } else if (w ~ /^[[(]$/) pass_over()
         else if (w == "" || is_item(w) || w ~ /^(pub|const|type|struct|enum|[^-<>:,&'A-Za-z0-9_].*)$/) refuse("the header of " name " is not closed: " w)
     }
+    if (trait != "") {
+        if (w == "{") refuse("a method with a body in a trait")
+        method_contract[trait, name] = contract
+        if (!is_first) total++
+        check_clauses(file ":" at, trait "." name, clauses)
+        return
+    }
     pass_over()
-    if (lost || !is_public) return
-    if (is_open) hold(at, prefix type name, clauses)
+    if (lost) return
+    if (of_trait != "") {
+        if (is_first || !is_of_public) return
+        if (clauses != "" || !((of_trait, name) in method_contract)) return refuse(name)
+        contract = method_contract[of_trait, name]
+        return hold(at, prefix type name, " ensures", 0)
+    }
+    if (!is_public) return
+    if (is_open) hold(at, prefix type name, clauses, is_every)
     else if (exported) fall(file ":" at, type name " is exported from a private module")
     else if (type != "") fall(file ":" at, type name " is a public method in a private module")
 }
 
-function hold(at, name, clauses) {
-    total++
-    at = file ":" at
+function check_clauses(at, name, clauses) {
     if (clauses ~ /requires/) fall(at, name " has a requires")
     else if (clauses ~ /ghost/) fall(at, name " has a ghost value")
     else if (clauses !~ /ensures/) fall(at, name " has no ensures")
-    else if (!(name in theorem)) fall(at, name " is missing from " list)
-    else if (table) print_row(name)
+    else return 1
+    return 0
+}
+
+function hold(at, name, clauses, is_every) {
+    if (!is_first) total++
+    at = file ":" at
+    if (!check_clauses(at, name, clauses)) return
+    if (is_every) {
+        if (!(name in theorem_at_every_type)) fall(at, name " is missing from crates/" crate "/proofs/Generic.antt")
+        else if (table) print_row(name, theorem_at_every_type[name])
+    } else if (!(name in theorem)) fall(at, name " is missing from " list)
+    else if (table) print_row(name, theorem[name])
 }
 
 # The contract as the source states it, without the names of its clauses and the brackets about them.
-function print_row(name) {
+function print_row(name, by) {
+    if (is_first) return
     gsub(/ *; +/, "; ", contract)
     gsub(/^ +|; *$/, "", contract)
-    print "| `" crate "::" dotless(name) "` | `" contract "` | `" theorem[name] "` |"
+    print "| `" crate "::" dotless(name) "` | `" contract "` | `" by "` |"
 }
 
 function dotless(name) {
@@ -238,12 +366,27 @@ function dotless(name) {
     return name
 }
 
-function pass_declaration(kind,   w) {
+function pass_declaration(kind, is_public,   w, name) {
     while ((w = word()) != ";" && !lost) {
         if (w == "" || is_item(w)) refuse(w)
+        if (name == "") {
+            name = w
+            if (is_public && (kind == "struct" || kind == "enum")) is_public_type[crate "." name]
+        }
         if (w ~ /^[[({]$/) pass_over()
         if (w == "{" && (kind == "struct" || kind == "enum")) return
     }
+}
+
+# A ghost member of a trait or an impl: `ghost NAME: { .. };` or `ghost NAME = { .. };`.
+function pass_ghost_member(   name, kept) {
+    name = word()
+    if (name !~ /^[A-Za-z_]+$/ || trait == "" && of_trait == "") return refuse(name)
+    if (!follows(trait != "" ? ":" : "=")) return
+    kept = contract
+    pass_clause()
+    contract = kept
+    follows(";")
 }
 
 function pass_ghost_use() {
