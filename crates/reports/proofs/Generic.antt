@@ -52,7 +52,7 @@ use Rattle.reports.proofs.protocol.Decoder.event_total_by_value.Met as event_tot
 
 module _ {M : Type 1} (𝓤 : Ura M) (𝓛 : Logic 𝓤) (𝓜 : Model 𝓤 𝓛.H) (𝓡 : Running 𝓤 𝓛.H 𝓜) (T : RattleType) (laws : Laws T) (copy : IsCopy T)
     (P : protocol.Ghosts T.Denot) (d : Dict) (C : clone.Ghosts T.Denot) (e : Dict) where
-  abbrev pub Bounds : Type 2
+  abbrev Bounds : Type 2
   Bounds = protocol_bound.Met 𝓛 𝓜 𝓡 𝓡.env T P d C e × clone_bound.Met 𝓛 𝓜 𝓡 𝓡.env T C e
 
   pub event_fixed

@@ -15,6 +15,7 @@ use denote.Param.Laws.{Laws, IsCopy}
 use denote.RattleType.{RattleType}
 use mir.Syntax.{Args, Dict, Dicts, Callee, a_type, dcons, dnil}
 use Rattle.std.specs.declared.clone.Clone as declared_clone
+use Rattle.std.specs.contracts.clone.Clone.TheBound as clone_bound
 use Rattle.std.below.core.specs.contracts.clone.Clone+copy.TheImpl as clone
 use Rattle.std.below.core.proofs.clone.Clone+copy.clone.Symbol as clone_symbol
 use Rattle.std.below.core.proofs.clone.Clone+copy.TheImpl.Met as clone_met
@@ -103,7 +104,7 @@ module _ (I : Impl) where
 
   pub bounds
       : (M : Type 1) (𝓤 : Ura M) (𝓛 : Logic 𝓤) (𝓜 : Model 𝓤 𝓛.H) (𝓡 : Running 𝓤 𝓛.H 𝓜)
-      → AllWired 𝓡.env (and clone_symbol.code I.methods) → generic.Bounds 𝓤 𝓛 𝓜 𝓡 row laws copy ghosts dict c e
+      → AllWired 𝓡.env (and clone_symbol.code I.methods) → protocol_bound.Met 𝓛 𝓜 𝓡 𝓡.env row ghosts dict c e × clone_bound.Met 𝓛 𝓜 𝓡 𝓡.env row c e
   bounds M 𝓤 𝓛 𝓜 𝓡 w = (I.met M 𝓤 𝓛 𝓜 𝓡 w.1, clone_met.bound 𝓡.env w.0 row laws copy M 𝓤 𝓛 𝓜 𝓡)
 
   pub decoder_fixed : DecoderFixed
