@@ -1,0 +1,43 @@
+-- The decoder of SBP: each of its functions is `Fixed`. And the machine of the impl is the definition's. Assumes nothing.
+use Rattle.std.specs.Prelude.{◌≡◌, refl}
+use prog.Wired.{and, end}
+use Rattle.reports.proofs.Instance.{Impl, Number, DecoderFixed, NewFixed}
+use Rattle.reports.proofs.Instance as instance
+use Rattle.sbp.specs.Decoder.{machine}
+use Rattle.sbp.specs.contracts.decoder.SbpMemory as memory
+use Rattle.sbp.proofs.decoder.SbpMemory.TheLaws as laws
+use Rattle.sbp.specs.contracts.decoder.SbpMemoryProtocol.TheImpl as impl
+use Rattle.sbp.proofs.decoder.SbpMemoryProtocol.TheImpl.Met as impl_met
+use Rattle.sbp.specs.contracts.decoder.SbpMemoryNumbered.TheImpl as number
+use Rattle.sbp.proofs.decoder.SbpMemoryNumbered.TheImpl.Met as number_met
+use Rattle.sbp.proofs.decoder.SbpMemoryNumbered.NUMBER.Symbol as number_symbol
+use Rattle.sbp.proofs.decoder.SbpMemoryProtocol.fresh.Symbol as fresh_symbol
+use Rattle.sbp.proofs.decoder.SbpMemoryProtocol.is_past_end.Symbol as is_past_end_symbol
+use Rattle.sbp.proofs.decoder.SbpMemoryProtocol.step.Symbol as step_symbol
+use Rattle.sbp.proofs.decoder.SbpMemoryProtocol.status.Symbol as status_symbol
+use Rattle.sbp.proofs.decoder.SbpMemoryProtocol.command.Symbol as command_symbol
+use Rattle.sbp.proofs.decoder.SbpMemoryProtocol.reset.Symbol as reset_symbol
+
+pub machine_of_impl : impl.ghosts.machine ≡ machine
+machine_of_impl = refl
+
+abbrev pub sbp : Impl
+sbp = record {
+  row = memory.the_row;
+  laws = laws.the_row_laws;
+  copy = laws.the_row_copy;
+  lives = laws.the_within;
+  ghosts = impl.ghosts;
+  dict = impl.dict;
+  methods = and fresh_symbol.code (and is_past_end_symbol.code (and step_symbol.code (and status_symbol.code (and command_symbol.code (and reset_symbol.code end)))));
+  met = λ M 𝓤 𝓛 𝓜 𝓡 w. impl_met.bound 𝓡.env w.0 w.1.0 w.1.1.0 w.1.1.1.0 w.1.1.1.1.0 w.1.1.1.1.1.0 M 𝓤 𝓛 𝓜 𝓡;
+}
+
+abbrev pub sbp_number : Number sbp
+sbp_number = record { ghosts = number.ghosts; dict = number.dict; method = number_symbol.code; met = λ M 𝓤 𝓛 𝓜 𝓡 w. number_met.bound 𝓡.env w M 𝓤 𝓛 𝓜 𝓡 }
+
+pub decoder_fixed : DecoderFixed sbp
+decoder_fixed = instance.decoder_fixed sbp
+
+pub new_fixed : NewFixed sbp sbp_number
+new_fixed = instance.new_fixed sbp sbp_number
