@@ -1,21 +1,13 @@
-use Rattle.std.proofs.Common.{◌∙◌, ap, refl, arith, length}
+use Rattle.std.proofs.Common.{◌∙◌, ap, arith, length}
 use Rattle.std.proofs.lemmas.Result.{err_from_is_err_and}
 use Rattle.batches.proofs.Loop.{refused, taken, all_used_here, goes_here, quiet_here, no_room_here, ended_first}
 use Rattle.batches.proofs.batch_in.Goals as goal
-use Rattle.batches.proofs.batch_in.Goals.{then-count-room, else-count-room+else-is_answer}
+use Rattle.batches.proofs.batch_in.Goals.{then-count-room, else-count-room+else-not-quiet_step}
 
 pub returns-in_err-of_lists : goal.returns-in_err-of_lists
 returns-in_err-of_lists g c =
     let p = err_from_is_err_and c.from_residual.result c.from_residual.ensures.1 in
     rw (p.1, p.2) (refused g.M.Protocol.machine _ _ _ _ _ _ _ c.is_past_end.ensures c.of_lists.ensures c.in_err-of_lists.was)
-
-pub loop-level-init : goal.loop-level-init
-loop-level-init g c =
-    record {
-      same_end = rw (c.into_iter-level-iterator.ensures.into_iter_gives, c.zip-level-items.ensures.first, c.iter.ensures.rest, c.zip-level-items.ensures.second.0) refl;
-      none_refused = refl;
-      counted = rw (c.into_iter-level-iterator.ensures.into_iter_gives, c.zip-level-items.ensures.second.0) (omega arith);
-    }
 
 pub loop-level-preserved : goal.loop-level-preserved
 loop-level-preserved g c =
@@ -29,11 +21,10 @@ loop-level-preserved g c =
         none_refused = kept.none_refused;
         counted = omega (arith, kept.counted, ap length c.in-Some.ensures.steps.1);
       }
-      | else-count-room+else-is_answer w ↦ record {
+      | else-count-room+else-not-quiet_step w ↦ record {
         same_end =
             rw (w.memory-is, w.edges-is, w.kinds-is, w.values-is, w.count-is)
-            (quiet_here g.M.Protocol.machine _ _ _ _ _ _ _ _ _ _ c.in-Some.ensures.steps w.event_total-report-else-count-room.ensures.report w.event_total-report-else-count-room.ensures.after
-            w.is_answer.ensures w.if-is_answer.false ∙ kept.same_end);
+            (quiet_here g.M.Protocol.machine _ _ _ _ _ _ _ _ _ _ c.in-Some.ensures.steps w.quiet_step.ensures.taken w.quiet_step.ensures.after w.if-not-quiet_step.false ∙ kept.same_end);
         none_refused = kept.none_refused;
         counted = omega (arith, kept.counted, ap length c.in-Some.ensures.steps.1);
       }
@@ -46,9 +37,8 @@ returns-in-None g c =
     (taken g.M.Protocol.machine _ _ _ _ _ _ _ c.is_past_end.ensures c.of_lists.ensures c.in_ok-of_lists.was c.min.ensures c.min-room.ensures
     (all_used_here g.M.Protocol.machine _ _ _ _ _ _ _ _ _ _ (ended_first c.in-None.ensures.steps) ∙ kept.same_end))
 
-pub returns-then-is_answer : goal.returns-then-is_answer
-returns-then-is_answer g c =
-    let kept = c.loop-level.invariant in
+pub returns-then-not-quiet_step : goal.returns-then-not-quiet_step
+returns-then-not-quiet_step g c =
     taken g.M.Protocol.machine _ _ _ _ _ _ _ c.is_past_end.ensures c.of_lists.ensures c.in_ok-of_lists.was c.min.ensures c.min-room.ensures
-    (no_room_here g.M.Protocol.machine _ _ _ _ _ _ _ _ _ _ c.in-Some.ensures.steps c.event_total-report-else-count-room.ensures.report c.event_total-report-else-count-room.ensures.after
-    c.is_answer.ensures c.if-is_answer.true c.if-count-room.false ∙ kept.same_end)
+    (no_room_here g.M.Protocol.machine _ _ _ _ _ _ _ _ _ _ c.in-Some.ensures.steps c.quiet_step.ensures.taken c.quiet_step.ensures.after c.if-not-quiet_step.true c.if-count-room.false
+    ∙ c.loop-level.invariant.same_end)
