@@ -15,7 +15,7 @@ pub trait Protocol: Copy {
     fn fresh() -> Self
         ensures { result ≡ machine.fresh };
 
-    // Refusal 4.
+    // Refusal 4: its bit counter is past its end.
     fn is_past_end(&self) -> bool
         ensures { result ≡ machine.past_end self.now };
 
@@ -104,7 +104,7 @@ pub struct TotalAnswer<M> {
 
 // The decoder that the caller keeps and lends to each call, as the crate has it.
 impl<M: Protocol> Decoder<M> {
-    // Refusal 1.
+    // At a rate in hertz. Refusal 1; at a memory whose number is none of 1 to 5, 2.
     pub fn new(rate: u32) -> Result<Decoder<M>, Refusal>
     where
         M: Numbered,
