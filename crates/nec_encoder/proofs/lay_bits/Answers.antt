@@ -10,7 +10,7 @@ use Rattle.nec_encoder.proofs.lay_bits.Goals.{then-bit, else-bit}
 pub loop-place-preserved : goal.loop-place-preserved
 loop-place-preserved c =
     let loop = c.loop-place in
-    let space : c.if-bit.out ≡ cond c.bit.result c.scale-long.result c.scale-short.result = elim c.if-bit.branch [ then-bit w ↦ search rules | else-bit w ↦ search rules ] in
+    let space : c.if-bit.space ≡ cond c.bit.result c.scale-long.result c.scale-short.result = elim c.if-bit.branch [ then-bit w ↦ search rules | else-bit w ↦ search rules ] in
     next_two c.scale-short.result c.scale-short.result c.scale-long.result c.args.bits loop.out (3 + 2 * loop.place) _ 32 loop.place _ _ c.bit.ensures space (omega arith) (omega arith)
     ∙ loop.invariant
 
