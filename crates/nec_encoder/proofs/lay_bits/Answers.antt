@@ -14,9 +14,9 @@ loop-place-preserved c =
     next_two c.scale-short.result c.scale-short.result c.scale-long.result c.args.bits loop.out (3 + 2 * loop.place) _ 32 loop.place _ _ c.bit.ensures space (omega arith) (omega arith)
     ∙ loop.invariant
 
-pub returns : goal.returns
+pub returns-clause-laid : goal.returns-clause-laid
 unfolding frame_of
-returns c =
+returns-clause-laid c =
     let loop = c.loop-place in
     let done = sym (no_pair c.scale-short.result c.scale-short.result c.scale-long.result c.args.bits loop.out (3 + 2 * loop.place) 32 loop.place (omega arith)) ∙ loop.invariant in
     done
