@@ -104,7 +104,7 @@ pub struct TotalAnswer<M> {
 
 // The decoder that the caller keeps and lends to each call, as the crate has it.
 impl<M: Protocol> Decoder<M> {
-    // At a rate in hertz. Refusal 1; at a memory whose number is none of 1 to 5, 2.
+    // With the spans of the memory's protocol at a rate. Refusal 1; before it 2, where no protocol has that number.
     pub fn new(rate: u32) -> Result<Decoder<M>, Refusal>
     where
         M: Numbered,
