@@ -208,6 +208,12 @@ function read_item(w, type,   is_public) {
     while (w == "#") w = pass_attribute()
     is_public = w == "pub"
     if (is_public) w = word()
+    # what is public in its crate alone is ours
+    if (is_public && w == "(") {
+        if (!follows("crate )")) return
+        is_public = 0
+        w = word()
+    }
     if (exported && !(w == "extern" && is_public)) return refuse(w)
     if (w == "extern" && is_public) w = follows("\"C\" fn") ? "fn" : ""
     if (w == "fn") read_function(is_public, type)
@@ -217,7 +223,7 @@ function read_item(w, type,   is_public) {
     else if (w == "use" && is_public) refuse("a re-export")
     else if (w ~ /^(use|const|type|struct|enum)$/) pass_declaration(w, is_public)
     else if (w == "mod") read_mod(is_public)
-    else if (w == "trait") read_trait()
+    else if (w == "trait") read_trait(is_public)
     else if (w == "impl" && !is_public) read_impl()
     else if (w == "ghost" && !is_public) pass_ghost_use()
     else refuse(w)
@@ -288,10 +294,11 @@ function read_impl(   w, type) {
 }
 
 # A trait of ours: each method has its contract there, and each impl of a public type is held to a theorem.
-function read_trait(   w) {
+function read_trait(is_public,   w) {
     trait = word()
     if (trait !~ /^[A-Z][A-Za-z0-9]*$/) return refuse(trait)
     is_trait[trait]
+    if (is_public) is_public_trait[trait]
     while ((w = word()) != "{" && !lost) if (w !~ /^[:+A-Za-z0-9_]+$/ || is_item(w)) return refuse(w)
     while ((w = word()) != "}" && !lost) read_item(w, trait ".")
     trait = ""
@@ -316,6 +323,7 @@ function read_function(is_public, type,   name, at, w, clauses, is_every) {
     if (trait != "") {
         if (w == "{") refuse("a method with a body in a trait")
         method_contract[trait, name] = contract
+        if (!(trait in is_public_trait)) return
         if (!is_first) total++
         check_clauses(file ":" at, trait "." name, clauses)
         return
@@ -323,7 +331,7 @@ function read_function(is_public, type,   name, at, w, clauses, is_every) {
     pass_over()
     if (lost) return
     if (of_trait != "") {
-        if (is_first || !is_of_public) return
+        if (is_first || !is_of_public || !(of_trait in is_public_trait)) return
         if (clauses != "" || !((of_trait, name) in method_contract)) return refuse(name)
         contract = method_contract[of_trait, name]
         return hold(at, prefix type name, " ensures", 0)
