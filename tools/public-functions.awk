@@ -6,10 +6,6 @@ BEGIN {
     split("mathlib", libraries, " ")
     known["use mathlib.Core.Path.{refl}"]
     known["use Rattle.std.proofs.Common.{refl}"]
-    known["use Rattle.std.specs.Prelude.{◌≡◌, refl}"]
-    # an impl's machine is the definition
-    known["machine_of_impl : impl.ghosts.machine ≡ machine"]
-    known["machine_of_impl = refl"]
     total = short = 0
     # First for the traits alone: an impl may stand in a crate that comes before its trait's.
     for (is_first = 1; is_first >= 0; is_first--) {
@@ -74,7 +70,6 @@ function take_line(at, text,   alias) {
     if (text == "" || text in known) return
     if (is_generic_list) return take_generic(at, text)
     if (text ~ /^use Rattle[.]determined[.]specs[.]Determined[.][{]Fixed(, [^ \t,{}]+)+[}]$/) return
-    if (text == "use Rattle." crate ".specs.Decoder.{machine}") return
     if (names(text, "specs.contracts.", "", "", path) || names(text, "proofs.", ".Symbol", "_symbol", symbol) || names(text, "proofs.", ".Met", "_met", met)) return
     if (match(text, /^[a-z0-9_]+_fixed /)) {
         alias = substr(text, 1, RLENGTH - 7)
@@ -284,6 +279,7 @@ function read_impl(   w, type) {
         if (type !~ /^[A-Z][A-Za-z0-9]*$/) return refuse(type)
         if (!is_first && !(of_trait in is_trait)) return refuse(of_trait)
         is_of_public = (crate "." type) in is_public_type
+        if (is_of_public && !is_first) ask_instance(of_trait, type)
         type = type of_trait
         w = word()
     }
@@ -291,6 +287,17 @@ function read_impl(   w, type) {
     while ((w = word()) != "}" && !lost) read_item(w, type ".")
     at_every_type = 0
     of_trait = ""
+}
+
+# Of a memory with its impl of a protocol, the generic functions are `Fixed` too, its machine is the definition's, and its number document 01's: proofs/Instance.antt says so.
+function ask_instance(of, type,   said, wanted, count, i, line_of) {
+    if (of == "Protocol") count = split("pub machine_of_impl : impl.ghosts.machine ≡ machine|pub decoder_fixed : ", wanted, "|")
+    else if (of == "Numbered") count = split("pub number_of_impl : number.ghosts.NUMBER ≡ |pub new_fixed : ", wanted, "|")
+    else return
+    said = "crates/" crate "/proofs/Instance.antt"
+    while ((getline line_of < said) > 0) for (i = 1; i <= count; i++) if (index(line_of, wanted[i]) == 1) wanted[i] = ""
+    close(said)
+    for (i = 1; i <= count; i++) if (wanted[i] != "") fall(file ":" line, type " lacks in " said " the line: " wanted[i])
 }
 
 # A trait of ours: each method has its contract there, and each impl of a public type is held to a theorem.
