@@ -3,13 +3,12 @@
 # `take_generic` names. It reads every file of a library whole, and refuses anything else with its place.
 
 BEGIN {
-    split("mathlib", libraries, " ")
+    split("mathlib seplogic types prog contract denote mir", libraries, " ")
     known["use mathlib.Core.Path.{refl}"]
     known["use Rattle.std.proofs.Common.{refl}"]
-    known["use Rattle.std.specs.Prelude.{◌≡◌, refl}"]
-    # an impl's machine is the definition
-    known["machine_of_impl : impl.ghosts.machine ≡ machine"]
-    known["machine_of_impl = refl"]
+    split("seplogic.Ra.Ura.{Ura}|types.Logic.{Logic}|prog.Model.{Model}|prog.Wired.{Wired}|contract.Running.{Running}|contract.BorrowLft.{◌⊑◌}|contract.Lifetimes.{lft_at}|" \
+        "denote.Param.{bounded}|denote.Param.Laws.{Laws, IsCopy}|denote.RattleType.{RattleType}|mir.Syntax.{Dict, a_type, dcons, dnil}", kit, "|")
+    for (i in kit) of_kit["use " kit[i]]
     total = short = 0
     # First for the traits alone: an impl may stand in a crate that comes before its trait's.
     for (is_first = 1; is_first >= 0; is_first--) {
@@ -50,6 +49,9 @@ function read_theorems(   text, whole, at, number, i) {
     split("", symbol)
     split("", met)
     split("", stated)
+    split("", declared)
+    split("", bound)
+    trait_named = ""
     # a module of ours under a library's name would be read in place of the library
     for (i in libraries) path[libraries[i]] = ""
     whole = ""
@@ -74,7 +76,6 @@ function take_line(at, text,   alias) {
     if (text == "" || text in known) return
     if (is_generic_list) return take_generic(at, text)
     if (text ~ /^use Rattle[.]determined[.]specs[.]Determined[.][{]Fixed(, [^ \t,{}]+)+[}]$/) return
-    if (text == "use Rattle." crate ".specs.Decoder.{machine}") return
     if (names(text, "specs.contracts.", "", "", path) || names(text, "proofs.", ".Symbol", "_symbol", symbol) || names(text, "proofs.", ".Met", "_met", met)) return
     if (match(text, /^[a-z0-9_]+_fixed /)) {
         alias = substr(text, 1, RLENGTH - 7)
@@ -93,13 +94,18 @@ function take_line(at, text,   alias) {
 # Of generic functions: the statement is at every type with every impl of its bounds. The bounds' modules stand under the names that the statements use.
 function take_generic(at, text,   alias, said) {
     if (text ~ /^use Rattle[.]determined[.]specs[.]Determined[.][{]FixedWhere(, [^ \t,{}]+)+[}]$/) return
-    if (text ~ /^use (seplogic|types|prog|contract|denote|mir)[.][A-Za-z.]+[.][{][A-Za-z_, ◌⊑]+[}]$/ && text !~ / as |FixedWhere/) return
-    if (text ~ /^use Rattle[.]std[.]specs[.]Prelude[.][{][a-z\[\]◌∷≡, ]+[}]$/) return
+    if (text in of_kit || text ~ /^use Rattle[.]std[.]specs[.]Prelude[.][{](refl, )?\[\], ◌∷◌[}]$/) return
     if (text == "use Rattle.std.specs.declared.clone.Clone as clone" || text == "use Rattle.std.specs.contracts.clone.Clone.TheBound as clone_bound") return
-    if (text ~ /^use Rattle[.][a-z_]+[.]specs[.]declared[.]([a-z_]+[.])?[A-Z][A-Za-z]+ as [a-z]+$/ || text ~ /^use Rattle[.][a-z_]+[.]specs[.]contracts[.]([a-z_]+[.])?[A-Z][A-Za-z]+[.]TheBound as [a-z]+_bound$/) return
+    if (names_trait(text, "declared", "", "", declared) || names_trait(text, "contracts", ".TheBound", "_bound", bound)) return
     if (names(text, "specs.contracts.", "", "", path) || names(text, "proofs.", ".Symbol", "_symbol", symbol) || names(text, "proofs.", ".Met", "_met", met)) return
-    if (text ~ /^module _ [{]M : Type 1[}] [(]𝓤 : Ura M[)] [(]𝓛 : Logic 𝓤[)] [(]𝓜 : Model 𝓤 𝓛[.]H[)] [(]𝓡 : Running 𝓤 𝓛[.]H 𝓜[)] [(]T : RattleType[)] [(]laws : Laws T[)] [(]copy : IsCopy T[)] [(]P : [a-z]+[.]Ghosts T[.]Denot[)] [(]d : Dict[)] [(]C : clone[.]Ghosts T[.]Denot[)] [(]e : Dict[)] where$/) return
-    if (text ~ /^  abbrev Bounds : Type 2$/ || text ~ /^  Bounds = [a-z]+_bound[.]Met 𝓛 𝓜 𝓡 𝓡[.]env T P d C e × clone_bound[.]Met 𝓛 𝓜 𝓡 𝓡[.]env T C e$/) return
+    if (text ~ /^module _ [{]M : Type 1[}] [(]𝓤 : Ura M[)] [(]𝓛 : Logic 𝓤[)] [(]𝓜 : Model 𝓤 𝓛[.]H[)] [(]𝓡 : Running 𝓤 𝓛[.]H 𝓜[)] [(]T : RattleType[)] [(]laws : Laws T[)] [(]copy : IsCopy T[)] [(]P : [a-z]+[.]Ghosts T[.]Denot[)] [(]d : Dict[)] [(]C : clone[.]Ghosts T[.]Denot[)] [(]e : Dict[)] where$/) {
+        trait_named = text
+        sub(/.*[(]P : /, "", trait_named)
+        sub(/[.].*/, "", trait_named)
+        return
+    }
+    if (text ~ /^  abbrev Bounds : Type 2$/) return
+    if (is_trait_named(trait_named) && text == "  Bounds = " trait_named "_bound.Met 𝓛 𝓜 𝓡 𝓡.env T P d C e × clone_bound.Met 𝓛 𝓜 𝓡 𝓡.env T C e") return
     said = text
     sub(/^  (pub )?/, "", said)
     if (match(said, /^[a-z0-9_]+_fixed /)) {
@@ -116,8 +122,30 @@ function take_generic(at, text,   alias, said) {
     fall(list ":" at, "this is not understood: " text)
 }
 
+# Whether an import names a trait: its module of a kind goes to of[NAME].
+function names_trait(text, kind, after, ending, of,   part) {
+    if (text !~ ("^use Rattle[.][a-z_]+[.]specs[.]" kind "[.]([a-z_]+[.])?[A-Z][A-Za-z]+" (after == "" ? "" : "[.]TheBound") " as [a-z]+" ending "$")) return 0
+    split(text, part, " as ")
+    if (!cut(part, 1, after) || ending != "" && !cut(part, 2, ending) || part[2] in path || part[2] in of) return 0
+    sub("^use Rattle[.]", "", part[1])
+    sub("[.]specs[.]" kind "[.]", ".", part[1])
+    of[part[2]] = part[1]
+    return 1
+}
+
+# Whether the two names of a trait are of one.
+function is_trait_named(name) {
+    return name in declared && name in bound && declared[name] == bound[name]
+}
+
 # The bounds of one more trait are N and f.
-function is_generic_statement(f, said,   i, one, more, name) {
+function is_generic_statement(f, said,   i, one, more, name, other) {
+    other = said
+    if (other ~ /[(]N : /) {
+        sub(/.*[(]N : /, "", other)
+        sub(/[.].*/, "", other)
+        if (!is_trait_named(other) || index(said, " × " other "_bound.Met ") == 0) return 0
+    }
     split("T P d C e|T P d C e N f", one, "|")
     split("|(N : [a-z]+[.]Ghosts T[.]Denot) (f : Dict) → ", more, "|")
     for (i = 1; i <= 2; i++) {
@@ -247,7 +275,7 @@ function pass_attribute(   w) {
 
 # A derive gives a type public functions, whose contracts are the kit's. So each derive that may be taken is named here.
 function pass_derives(   w) {
-    while ((w = word()) != ")" && !lost) if (w !~ /^(Clone|Copy|Debug|PartialEq|Eq|Drop|,)$/) refuse(w)
+    while ((w = word()) != ")" && !lost) if (w !~ /^(Clone|Copy|Debug|PartialEq|Eq|,)$/) refuse(w)
 }
 
 # Parameters between < and >, the first of which is read; whether one of them is a type.
@@ -282,8 +310,13 @@ function read_impl(   w, type) {
         of_trait = type
         type = word()
         if (type !~ /^[A-Z][A-Za-z0-9]*$/) return refuse(type)
-        if (!is_first && !(of_trait in is_trait)) return refuse(of_trait)
+        # a trait that is not public stands in its crate alone
+        if (!is_first && !(of_trait in is_public_trait) && !((crate "." of_trait) in is_own_trait)) return refuse(of_trait)
+        # neither a parameter nor another name of a type; one of another crate may have a trait of this crate alone
+        if (!is_first && of_trait in is_public_trait && !((crate "." type) in is_type)) return refuse(type)
         is_of_public = (crate "." type) in is_public_type
+        if (is_of_public && !is_first) ask_instance(of_trait, type)
+        if (of_trait in is_public_trait && !is_of_public) is_hidden[crate "." type]
         type = type of_trait
         w = word()
     }
@@ -293,13 +326,29 @@ function read_impl(   w, type) {
     of_trait = ""
 }
 
+# Of a memory with its impl of a protocol, the generic functions are `Fixed` too, its machine is the definition's, and its number document 01's: proofs/Instance.antt says so.
+function ask_instance(of, type,   said, wanted, count, i, line_of) {
+    if (of == "Protocol") count = split("pub machine_of_impl : impl.ghosts.machine ≡ machine|pub decoder_fixed : ", wanted, "|")
+    else if (of == "Numbered") count = split("pub number_of_impl : number.ghosts.NUMBER ≡ |pub new_fixed : ", wanted, "|")
+    else return
+    said = "crates/" crate "/proofs/Instance.antt"
+    while ((getline line_of < said) > 0) for (i = 1; i <= count; i++) if (index(line_of, wanted[i]) == 1) wanted[i] = ""
+    close(said)
+    for (i = 1; i <= count; i++) if (wanted[i] != "") fall(file ":" line, type " lacks in " said " the line: " wanted[i])
+}
+
 # A trait of ours: each method has its contract there, and each impl of a public type is held to a theorem.
 function read_trait(is_public,   w) {
     trait = word()
     if (trait !~ /^[A-Z][A-Za-z0-9]*$/) return refuse(trait)
     is_trait[trait]
+    is_own_trait[crate "." trait]
     if (is_public) is_public_trait[trait]
-    while ((w = word()) != "{" && !lost) if (w !~ /^[:+A-Za-z0-9_]+$/ || is_item(w)) return refuse(w)
+    while ((w = word()) != "{" && !lost) {
+        if (w !~ /^[:+A-Za-z0-9_]+$/ || is_item(w)) return refuse(w)
+        # whoever has the public trait has the methods of those that it stands on
+        if (!is_first && is_public && w in is_trait && !(w in is_public_trait)) return refuse(w)
+    }
     while ((w = word()) != "}" && !lost) read_item(w, trait ".")
     trait = ""
 }
@@ -318,6 +367,7 @@ function read_function(is_public, type,   name, at, w, clauses, is_every) {
             clauses = clauses " " w
             pass_clause()
         } else if (w ~ /^[[(]$/) pass_over()
+        else if (!is_first && is_public && (crate "." w) in is_hidden) refuse(w)
         else if (w == "" || is_item(w) || w ~ /^(pub|const|type|struct|enum|[^-<>:,&'A-Za-z0-9_].*)$/) refuse("the header of " name " is not closed: " w)
     }
     if (trait != "") {
@@ -351,7 +401,11 @@ function check_clauses(at, name, clauses) {
 }
 
 function hold(at, name, clauses, is_every) {
-    if (!is_first) total++
+    if (!is_first) {
+        total++
+        if ((crate, name) in held) fall(file ":" at, name " is there twice")
+        held[crate, name]
+    }
     at = file ":" at
     if (!check_clauses(at, name, clauses)) return
     if (is_every) {
@@ -379,8 +433,11 @@ function pass_declaration(kind, is_public,   w, name) {
         if (w == "" || is_item(w)) refuse(w)
         if (name == "") {
             name = w
+            if (kind == "struct" || kind == "enum") is_type[crate "." name]
             if (is_public && (kind == "struct" || kind == "enum")) is_public_type[crate "." name]
         }
+        # another name of a type whose calls are held to nothing
+        if (!is_first && is_public && kind == "type" && (crate "." w) in is_hidden) refuse(w)
         if (w ~ /^[[({]$/) pass_over()
         if (w == "{" && (kind == "struct" || kind == "enum")) return
     }

@@ -1,4 +1,4 @@
--- Document 02, request 01: "From a decoder that is not past its end no edge makes it so". Where a machine's steps and resets keep it so, its runs of edges do
+-- Document 02, request 01: refusal 4 is tested once a batch. Where a machine's steps and resets keep it so, its runs of edges do
 -- (`runs_in_reach`); and where its rule reports no refusal, no report of such a run is one (`reports_taken`). So a batch tests refusal 4 once. Assumes nothing.
 use mathlib.Core.Path.{◌≡◌, refl}
 use mathlib.Core.Bool.{Bool, true, false}

@@ -1,7 +1,7 @@
--- Document 02, request 01: "From a decoder that is not past its end no edge makes it so", for each protocol and by number, from every state. So a batch tests refusal 4 once,
+-- From a memory that is not past its end no edge makes it so, for each protocol and by number, from every state. So a batch tests refusal 4 once,
 -- and no report of its run of edges is a refusal. A step keeps the counter in reach, by cases on the state and its tests; a reset leaves no counter. Assumes nothing.
 use mathlib.Core.Path.{◌≡◌, refl}
-use mathlib.Core.Bool.{Bool, true, false, cond}
+use mathlib.Core.Bool.{Bool, false}
 use Prim.Native.Nat.{ℕ, ◌+◌, ◌-◌, ◌%◌}
 use native.Mathlib.Omega.{arith}
 use lib.Dec.{eqb, ltb}

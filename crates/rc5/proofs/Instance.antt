@@ -1,4 +1,4 @@
--- The decoder of RC5: each of its functions is `Fixed`. And the machine of the impl is the definition's. Assumes nothing.
+-- The decoder of RC5: each of its functions is `Fixed`. And the machine of the impl is the definition's, and its number document 01's. Assumes nothing.
 use Rattle.std.specs.Prelude.{◌≡◌, refl}
 use prog.Wired.{and, end}
 use Rattle.reports.proofs.Instance.{Impl, Number, DecoderFixed, NewFixed}
@@ -20,6 +20,9 @@ use Rattle.rc5.proofs.decoder.Rc5MemoryProtocol.reset.Symbol as reset_symbol
 
 pub machine_of_impl : impl.ghosts.machine ≡ machine
 machine_of_impl = refl
+
+pub number_of_impl : number.ghosts.NUMBER ≡ 2
+number_of_impl = refl
 
 abbrev pub rc5 : Impl
 rc5 = record {

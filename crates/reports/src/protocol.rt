@@ -12,6 +12,7 @@ use spans::Spans;
 pub trait Protocol: Copy {
     ghost machine: { Machine Self };
 
+    // What a new decoder remembers.
     fn fresh() -> Self
         ensures { result ≡ machine.fresh };
 
@@ -19,17 +20,20 @@ pub trait Protocol: Copy {
     fn is_past_end(&self) -> bool
         ensures { result ≡ machine.past_end self.now };
 
-    // Whether the edge is taken: a memory past its end takes none, and is left as it was.
+    // One edge: its level, and the duration since the edge before, in ticks of the spans' rate. Whether it is taken: a memory past its end takes none, and is left as it was.
     fn step(&mut self, spans: &Spans, rising: bool, duration: u32) -> bool
         ensures taken { result ≡ not (machine.past_end self.old) }
         ensures after { self.new ≡ stepped machine spans.now self.old (edge rising duration) };
 
+    // Where the decoder stands then.
     fn status(&self) -> Status
         ensures { result ≡ machine.status self.now };
 
+    // The command that is gathered, or nothing, as document 01 says of each protocol. Every state is taken.
     fn command(&self) -> Report
         ensures { result ≡ machine.command self.now };
 
+    // Back to the state before a frame; what is kept, document 01 says of each protocol. Every state is taken.
     fn reset(&mut self)
         ensures { self.new ≡ machine.reset self.old };
 }
@@ -41,7 +45,7 @@ pub trait Numbered: Protocol {
     const NUMBER: u32;
 }
 
-// Refusal 4 is tested at each edge.
+// The step of one edge, and where the decoder stands then. The duration is in ticks of the spans' rate. Refusal 4 is tested at each edge, and leaves the memory as it was.
 #[inline(always)]
 #[tactic(auto, unfolding(crate::specs::Machine::event))]
 pub fn event<M: Protocol>(memory: &mut M, spans: &Spans, rising: bool, duration: u32) -> Status
@@ -55,7 +59,7 @@ pub fn event<M: Protocol>(memory: &mut M, spans: &Spans, rising: bool, duration:
     }
 }
 
-// The rule of event_total over the status that event answers.
+// The rule of event_total over the status that event answers: at Done the command and at an error the error, with a reset; else nothing. Refusal 4 leaves the memory as it was.
 #[inline(always)]
 #[tactic(auto, unfolding(crate::specs::Machine::total))]
 pub fn event_total<M: Protocol>(
@@ -116,7 +120,7 @@ impl<M: Protocol> Decoder<M> {
         })
     }
 
-    // Refusal 4.
+    // One edge, as `event`. Refusal 4; the decoder is left as it was.
     pub fn event(&mut self, rising: bool, duration: u32) -> Status
         ensures status { result ≡ (event M.machine self.old.spans self.old.memory (edge rising duration)).status }
         ensures after { self.new ≡ record self.old { memory = (event M.machine self.old.spans self.old.memory (edge rising duration)).memory } }
@@ -124,19 +128,21 @@ impl<M: Protocol> Decoder<M> {
         event(&mut self.memory, &self.spans, rising, duration)
     }
 
+    // As the protocol's `command`.
     pub fn command(&self) -> Report
         ensures { result ≡ M.machine.command self.now.memory }
     {
         self.memory.command()
     }
 
+    // As the protocol's `reset`.
     pub fn reset(&mut self)
         ensures { self.new ≡ record self.old { memory = M.machine.reset self.old.memory } }
     {
         self.memory.reset();
     }
 
-    // Refusal 4.
+    // One edge, as `event_total`. Refusal 4; the decoder is left as it was.
     pub fn event_total(&mut self, rising: bool, duration: u32) -> Report
         ensures report { result ≡ (total M.machine self.old.spans self.old.memory (edge rising duration)).report }
         ensures after { self.new ≡ record self.old { memory = (total M.machine self.old.spans self.old.memory (edge rising duration)).memory } }
@@ -159,6 +165,7 @@ impl<M: Protocol> Decoder<M> {
         }
     }
 
+    // As the protocol's `reset`.
     pub fn reset_by_value(self) -> Decoder<M>
         ensures { result ≡ reset_of M.machine self }
     {

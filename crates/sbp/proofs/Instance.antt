@@ -1,4 +1,4 @@
--- The decoder of SBP: each of its functions is `Fixed`. And the machine of the impl is the definition's. Assumes nothing.
+-- The decoder of SBP: each of its functions is `Fixed`. And the machine of the impl is the definition's, and its number document 01's. Assumes nothing.
 use Rattle.std.specs.Prelude.{◌≡◌, refl}
 use prog.Wired.{and, end}
 use Rattle.reports.proofs.Instance.{Impl, Number, DecoderFixed, NewFixed}
@@ -20,6 +20,9 @@ use Rattle.sbp.proofs.decoder.SbpMemoryProtocol.reset.Symbol as reset_symbol
 
 pub machine_of_impl : impl.ghosts.machine ≡ machine
 machine_of_impl = refl
+
+pub number_of_impl : number.ghosts.NUMBER ≡ 4
+number_of_impl = refl
 
 abbrev pub sbp : Impl
 sbp = record {
