@@ -13,6 +13,7 @@ use Rattle.nec.proofs.decoder.NecMemoryNumbered.TheImpl.Met as number_met
 use Rattle.nec.proofs.decoder.NecMemoryNumbered.NUMBER.Symbol as number_symbol
 use Rattle.nec.proofs.decoder.NecMemoryProtocol.fresh.Symbol as fresh_symbol
 use Rattle.nec.proofs.decoder.NecMemoryProtocol.is_past_end.Symbol as is_past_end_symbol
+use Rattle.nec.proofs.decoder.NecMemoryProtocol.refusal.Symbol as refusal_symbol
 use Rattle.nec.proofs.decoder.NecMemoryProtocol.step.Symbol as step_symbol
 use Rattle.nec.proofs.decoder.NecMemoryProtocol.status.Symbol as status_symbol
 use Rattle.nec.proofs.decoder.NecMemoryProtocol.command.Symbol as command_symbol
@@ -32,8 +33,8 @@ nec = record {
   lives = laws.the_within;
   ghosts = impl.ghosts;
   dict = impl.dict;
-  methods = and fresh_symbol.code (and is_past_end_symbol.code (and step_symbol.code (and status_symbol.code (and command_symbol.code (and reset_symbol.code end)))));
-  met = λ M 𝓤 𝓛 𝓜 𝓡 w. impl_met.bound 𝓡.env w.0 w.1.0 w.1.1.0 w.1.1.1.0 w.1.1.1.1.0 w.1.1.1.1.1.0 M 𝓤 𝓛 𝓜 𝓡;
+  methods = and fresh_symbol.code (and is_past_end_symbol.code (and refusal_symbol.code (and step_symbol.code (and status_symbol.code (and command_symbol.code (and reset_symbol.code end))))));
+  met = λ M 𝓤 𝓛 𝓜 𝓡 w. impl_met.bound 𝓡.env w.0 w.1.0 w.1.1.0 w.1.1.1.0 w.1.1.1.1.0 w.1.1.1.1.1.0 w.1.1.1.1.1.1.0 M 𝓤 𝓛 𝓜 𝓡;
 }
 
 abbrev pub nec_number : Number nec

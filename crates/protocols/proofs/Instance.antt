@@ -10,6 +10,7 @@ use Rattle.protocols.specs.contracts.decoder.MemoryProtocol.TheImpl as impl
 use Rattle.protocols.proofs.decoder.MemoryProtocol.TheImpl.Met as impl_met
 use Rattle.protocols.proofs.decoder.MemoryProtocol.fresh.Symbol as fresh_symbol
 use Rattle.protocols.proofs.decoder.MemoryProtocol.is_past_end.Symbol as is_past_end_symbol
+use Rattle.protocols.proofs.decoder.MemoryProtocol.refusal.Symbol as refusal_symbol
 use Rattle.protocols.proofs.decoder.MemoryProtocol.step.Symbol as step_symbol
 use Rattle.protocols.proofs.decoder.MemoryProtocol.status.Symbol as status_symbol
 use Rattle.protocols.proofs.decoder.MemoryProtocol.command.Symbol as command_symbol
@@ -26,8 +27,8 @@ by_number = record {
   lives = laws.the_within;
   ghosts = impl.ghosts;
   dict = impl.dict;
-  methods = and fresh_symbol.code (and is_past_end_symbol.code (and step_symbol.code (and status_symbol.code (and command_symbol.code (and reset_symbol.code end)))));
-  met = λ M 𝓤 𝓛 𝓜 𝓡 w. impl_met.bound 𝓡.env w.0 w.1.0 w.1.1.0 w.1.1.1.0 w.1.1.1.1.0 w.1.1.1.1.1.0 M 𝓤 𝓛 𝓜 𝓡;
+  methods = and fresh_symbol.code (and is_past_end_symbol.code (and refusal_symbol.code (and step_symbol.code (and status_symbol.code (and command_symbol.code (and reset_symbol.code end))))));
+  met = λ M 𝓤 𝓛 𝓜 𝓡 w. impl_met.bound 𝓡.env w.0 w.1.0 w.1.1.0 w.1.1.1.0 w.1.1.1.1.0 w.1.1.1.1.1.0 w.1.1.1.1.1.1.0 M 𝓤 𝓛 𝓜 𝓡;
 }
 
 pub decoder_fixed : DecoderFixed by_number

@@ -13,6 +13,7 @@ use Rattle.rc5.proofs.decoder.Rc5MemoryNumbered.TheImpl.Met as number_met
 use Rattle.rc5.proofs.decoder.Rc5MemoryNumbered.NUMBER.Symbol as number_symbol
 use Rattle.rc5.proofs.decoder.Rc5MemoryProtocol.fresh.Symbol as fresh_symbol
 use Rattle.rc5.proofs.decoder.Rc5MemoryProtocol.is_past_end.Symbol as is_past_end_symbol
+use Rattle.rc5.proofs.decoder.Rc5MemoryProtocol.refusal.Symbol as refusal_symbol
 use Rattle.rc5.proofs.decoder.Rc5MemoryProtocol.step.Symbol as step_symbol
 use Rattle.rc5.proofs.decoder.Rc5MemoryProtocol.status.Symbol as status_symbol
 use Rattle.rc5.proofs.decoder.Rc5MemoryProtocol.command.Symbol as command_symbol
@@ -32,8 +33,8 @@ rc5 = record {
   lives = laws.the_within;
   ghosts = impl.ghosts;
   dict = impl.dict;
-  methods = and fresh_symbol.code (and is_past_end_symbol.code (and step_symbol.code (and status_symbol.code (and command_symbol.code (and reset_symbol.code end)))));
-  met = λ M 𝓤 𝓛 𝓜 𝓡 w. impl_met.bound 𝓡.env w.0 w.1.0 w.1.1.0 w.1.1.1.0 w.1.1.1.1.0 w.1.1.1.1.1.0 M 𝓤 𝓛 𝓜 𝓡;
+  methods = and fresh_symbol.code (and is_past_end_symbol.code (and refusal_symbol.code (and step_symbol.code (and status_symbol.code (and command_symbol.code (and reset_symbol.code end))))));
+  met = λ M 𝓤 𝓛 𝓜 𝓡 w. impl_met.bound 𝓡.env w.0 w.1.0 w.1.1.0 w.1.1.1.0 w.1.1.1.1.0 w.1.1.1.1.1.0 w.1.1.1.1.1.1.0 M 𝓤 𝓛 𝓜 𝓡;
 }
 
 abbrev pub rc5_number : Number rc5

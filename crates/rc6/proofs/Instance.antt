@@ -13,6 +13,7 @@ use Rattle.rc6.proofs.decoder.Rc6MemoryNumbered.TheImpl.Met as number_met
 use Rattle.rc6.proofs.decoder.Rc6MemoryNumbered.NUMBER.Symbol as number_symbol
 use Rattle.rc6.proofs.decoder.Rc6MemoryProtocol.fresh.Symbol as fresh_symbol
 use Rattle.rc6.proofs.decoder.Rc6MemoryProtocol.is_past_end.Symbol as is_past_end_symbol
+use Rattle.rc6.proofs.decoder.Rc6MemoryProtocol.refusal.Symbol as refusal_symbol
 use Rattle.rc6.proofs.decoder.Rc6MemoryProtocol.step.Symbol as step_symbol
 use Rattle.rc6.proofs.decoder.Rc6MemoryProtocol.status.Symbol as status_symbol
 use Rattle.rc6.proofs.decoder.Rc6MemoryProtocol.command.Symbol as command_symbol
@@ -32,8 +33,8 @@ rc6 = record {
   lives = laws.the_within;
   ghosts = impl.ghosts;
   dict = impl.dict;
-  methods = and fresh_symbol.code (and is_past_end_symbol.code (and step_symbol.code (and status_symbol.code (and command_symbol.code (and reset_symbol.code end)))));
-  met = λ M 𝓤 𝓛 𝓜 𝓡 w. impl_met.bound 𝓡.env w.0 w.1.0 w.1.1.0 w.1.1.1.0 w.1.1.1.1.0 w.1.1.1.1.1.0 M 𝓤 𝓛 𝓜 𝓡;
+  methods = and fresh_symbol.code (and is_past_end_symbol.code (and refusal_symbol.code (and step_symbol.code (and status_symbol.code (and command_symbol.code (and reset_symbol.code end))))));
+  met = λ M 𝓤 𝓛 𝓜 𝓡 w. impl_met.bound 𝓡.env w.0 w.1.0 w.1.1.0 w.1.1.1.0 w.1.1.1.1.0 w.1.1.1.1.1.0 w.1.1.1.1.1.1.0 M 𝓤 𝓛 𝓜 𝓡;
 }
 
 abbrev pub rc6_number : Number rc6

@@ -16,9 +16,13 @@ pub trait Protocol: Copy {
     fn fresh() -> Self
         ensures { result ≡ machine.fresh };
 
-    // Refusal 4: its bit counter is past its end.
+    // Whether it is refused: its bit counter is past its end.
     fn is_past_end(&self) -> bool
         ensures { result ≡ machine.past_end self.now };
+
+    // And by which refusal: 4, of each of our protocols.
+    fn refusal(&self) -> Refusal
+        ensures { result ≡ machine.refusal self.now };
 
     // One edge: its level, and the duration since the edge before, in ticks of the spans' rate. Whether it is taken: a memory past its end takes none, and is left as it was.
     fn step(&mut self, spans: &Spans, rising: bool, duration: u32) -> bool
@@ -55,7 +59,7 @@ pub fn event<M: Protocol>(memory: &mut M, spans: &Spans, rising: bool, duration:
     if memory.step(spans, rising, duration) {
         memory.status()
     } else {
-        Status::Refused(Refusal::PastEnd)
+        Status::Refused(memory.refusal())
     }
 }
 
