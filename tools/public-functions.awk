@@ -1,6 +1,7 @@
 # Reads the libraries whose src/lib.rt are named, from the folder that holds crates/. tools/public-functions says what for.
 # It knows the items of a source that `read_item` names, the lines of a Determined.antt that `take_line` names, and those of a Generic.antt that
-# `take_generic` names. It reads every file of a library whole, and refuses anything else with its place.
+# `take_generic` names. It reads every file of a library whole, and refuses anything else with its place; so it does with an EachProtocol.antt, of which
+# `read_statements` says the lines. In an Instance.antt it looks for the lines that `take_instance` and `ask_instance` name.
 
 BEGIN {
     split("mathlib seplogic types prog contract denote mir", libraries, " ")
@@ -15,6 +16,10 @@ BEGIN {
         if (table && !is_first) print "| call | contract | theorem |\n|---|---|---|"
         for (i = 1; i < ARGC; i++) read_crate(ARGV[i])
     }
+    is_first = 0
+    for (i = 1; i < ARGC; i++) read_instance(ARGV[i])
+    for (i = 1; i < ARGC; i++) read_each(ARGV[i])
+    ask_each()
     if (!table || short) print total " public functions, " short " fall short"
     exit (short > 0 || total == 0)
 }
@@ -112,6 +117,9 @@ function take_generic(at, text,   alias, said) {
         alias = substr(said, 1, RLENGTH - 7)
         if (is_one(alias) && is_generic_statement(alias, said)) {
             stated[alias]
+            generic_path[crate, alias] = path[alias]
+            generic_trait[crate] = bare(declared[trait_named])
+            is_generic_trait[generic_trait[crate]]
             return
         }
         if (alias in stated && said ~ ("^" alias "_fixed (N f )?= ")) {
@@ -153,9 +161,18 @@ function is_generic_statement(f, said,   i, one, more, name, other) {
             "FixedWhere 𝓛 [(]" f "[.]ended " one[i] "[)] [(]" f "[.]clauses " one[i] " 𝓛 𝓜[.]mem 𝓡[.]returns[)] [(]Wired 𝓡[.]env " f "_symbol[.]code × Bounds" \
             (i == 1 ? "" : " × [a-z]+_bound[.]Met 𝓛 𝓜 𝓡 𝓡[.]env T N f P d C e") "[)] [(]λ κs[.] lft_at [0-9]+ [0-9]+ tt κs ⊑ T[.]lives[)] " \
             "[(]𝓡[.]run [(]𝓡[.]env [(]" f "_symbol[.]name [(]bounded [(]a_type ∷ \\[\\][)] [(]T, tt[)] [(]dcons d [(]dcons e " (i == 1 ? "dnil[)]" : "[(]dcons f dnil[)][)]") "[)][)][)][)][)]"
-        if (said ~ ("^" name "$")) return 1
+        if (said !~ ("^" name "$")) continue
+        needs_number[crate, f] = i == 2
+        if (i == 2) is_number_trait[bare(declared[other])]
+        return 1
     }
     return 0
+}
+
+# A trait's name without its modules.
+function bare(name) {
+    sub(/.*[.]/, "", name)
+    return name
 }
 
 # Whether an import names a module of a function of this crate, with a name that no other has: that goes to of[F].
@@ -315,6 +332,7 @@ function read_impl(   w, type) {
         # neither a parameter nor another name of a type; one of another crate may have a trait of this crate alone
         if (!is_first && of_trait in is_public_trait && !((crate "." type) in is_type)) return refuse(type)
         is_of_public = (crate "." type) in is_public_type
+        if (is_of_public) has_impl[of_trait]
         if (is_of_public && !is_first) ask_instance(of_trait, type)
         if (of_trait in is_public_trait && !is_of_public) is_hidden[crate "." type]
         type = type of_trait
@@ -326,15 +344,197 @@ function read_impl(   w, type) {
     of_trait = ""
 }
 
-# Of a memory with its impl of a protocol, the generic functions are `Fixed` too, its machine is the definition's, and its number document 01's: proofs/Instance.antt says so.
-function ask_instance(of, type,   said, wanted, count, i, line_of) {
-    if (of == "Protocol") count = split("pub machine_of_impl : impl.ghosts.machine ≡ machine|pub decoder_fixed : ", wanted, "|")
-    else if (of == "Numbered") count = split("pub number_of_impl : number.ghosts.NUMBER ≡ |pub new_fixed : ", wanted, "|")
-    else return
+# A public type with its impl of a trait over which functions are generic: proofs/Instance.antt names the two as one memory, for which `ask_each` asks. And a
+# protocol's machine is the definition's, and its number document 01's.
+function ask_instance(of, type,   said, wanted, count, i, line_of, own, name) {
     said = "crates/" crate "/proofs/Instance.antt"
-    while ((getline line_of < said) > 0) for (i = 1; i <= count; i++) if (index(line_of, wanted[i]) == 1) wanted[i] = ""
+    own = "use Rattle." crate ".specs.contracts." prefix type of ".TheImpl as "
+    count = 0
+    if (of == "Protocol") wanted[++count] = "pub machine_of_impl : impl.ghosts.machine ≡ machine"
+    if (of == "Numbered") wanted[++count] = "pub number_of_impl : number.ghosts.NUMBER ≡ "
+    if (of in is_generic_trait) {
+        wanted[++count] = own "impl"
+        wanted[++count] = "ghosts = impl.ghosts;"
+        wanted[++count] = "dict = impl.dict;"
+        name = "abbrev pub NAME : Impl"
+    }
+    if (of in is_number_trait) {
+        wanted[++count] = own "number"
+        name = "abbrev pub NAME_number : Number NAME"
+    }
+    while ((getline line_of < said) > 0) {
+        sub(/^ +/, "", line_of)
+        for (i = 1; i <= count; i++) if (index(line_of, wanted[i]) == 1) wanted[i] = ""
+        if (of in is_generic_trait && line_of ~ /^abbrev pub [a-z0-9_]+ : Impl$/) {
+            sub(/^abbrev pub /, "", line_of)
+            sub(/ .*/, "", line_of)
+            memory_trait[crate, line_of] = of
+            name = ""
+        }
+        if (of in is_number_trait && line_of ~ /^abbrev pub [a-z0-9_]+_number : Number [a-z0-9_]+$/) {
+            sub(/.* /, "", line_of)
+            is_numbered[crate, line_of]
+            name = ""
+        }
+    }
     close(said)
+    if (name != "") wanted[++count] = name
     for (i = 1; i <= count; i++) if (wanted[i] != "") fall(file ":" line, type " lacks in " said " the line: " wanted[i])
+}
+
+# ---- what the theorems of generic functions come to for a memory. Over any impl the proofs/Instance.antt of their crate states `Fixed` of each: of one that needs
+# the memory's number as `NewFixed`, of the others as fields of a record. A proofs/EachProtocol.antt, or the memory's own Instance.antt, then states each of
+# these of each memory.
+
+function read_instance(lib,   part, text, at, f) {
+    split(lib, part, "/")
+    crate = part[2]
+    if (!(crate in generic_trait) || !(generic_trait[crate] in has_impl)) return
+    list = "crates/" crate "/proofs/Instance.antt"
+    split("", path)
+    split("", symbol)
+    split("", said)
+    holder = stated_of = joined = ""
+    to_join = at = 0
+    while ((getline text < list) > 0) {
+        at++
+        sub(/^ +/, "", text)
+        if (text !~ /^(-- .*)?$/) take_instance(list ":" at, text)
+    }
+    close(list)
+    for (f in generic_path) {
+        split(f, part, SUBSEP)
+        if (part[1] == crate && !(part[2] in said)) fall(list, "this is missing: " part[2] "_fixed : Fixed (" part[2] ".ended ..")
+    }
+    for (f in is_statement) {
+        split(f, part, SUBSEP)
+        if (part[1] == crate && !(f in is_proved)) fall(list, "the proof is missing of " part[2])
+    }
+}
+
+function take_instance(at, text,   f, part) {
+    if (text ~ /--|[{]-|-[}]|"/) return fall(at, "a comment in a line is not understood")
+    if (stated_of != "") {
+        if (index(text, proof_begins) == 1) is_proved[crate, stated_of]
+        stated_of = ""
+        return
+    }
+    if (to_join > 0) {
+        joined = joined " " text
+        if (--to_join > 0) return
+        f = joined
+        sub(/^ NewFixed N = Fixed [(]/, "", f)
+        sub(/[.].*/, "", f)
+        if (!is_of_crate(f) || !needs_number[crate, f] || joined != numbered_statement(f, "") && joined != numbered_statement(f, "I ")) return fall(at, "this is not understood:" joined)
+        said[f]
+        is_statement[crate, "NewFixed"]
+        return
+    }
+    if (text ~ /^use /) {
+        if (text == "use Rattle.determined.specs.Determined.{Fixed}" || names(text, "specs.contracts.", "", "", path) || names(text, "proofs.", ".Symbol", "_symbol", symbol)) return
+        if (is_strange_import(text, path) || text ~ /[{ ]Fixed[},]/) fall(at, "this is not understood: " text)
+        return
+    }
+    if (text ~ /^pub record [A-Za-z]+ : Type 2 where$/) {
+        split(text, part, " ")
+        holder = part[3]
+        return
+    }
+    if (match(text, /^pub [a-z0-9_]+_fixed : Fixed /)) {
+        f = substr(text, 5, RLENGTH - 19)
+        if (holder == "" || !is_of_crate(f) || needs_number[crate, f] || text != instance_statement(f, "") && text != instance_statement(f, "I ")) return fall(at, "this is not understood: " text)
+        said[f]
+        is_statement[crate, holder]
+        return
+    }
+    holder = ""
+    if (text == "abbrev pub NewFixed : Number I → Type 2") {
+        to_join = 4
+        joined = ""
+    } else if (text ~ /^pub [a-z0-9_]+ : [A-Za-z]+$/ && split(text, part, " ") && (crate, part[4]) in is_statement) {
+        stated_of = part[4]
+        proof_begins = part[2] " = record {"
+    } else if (text ~ /^pub [a-z0-9_]+ : [(]N : Number I[)] → NewFixed N$/) {
+        split(text, part, " ")
+        stated_of = "NewFixed"
+        proof_begins = part[2] " N "
+    } else if (text ~ /(^| )Fixed /) fall(at, "this is not understood: " text)
+}
+
+# Whether the names of a function in an Instance.antt are those of one that its crate's Generic.antt speaks of.
+function is_of_crate(f) {
+    return (crate, f) in generic_path && f in path && f in symbol && path[f] == symbol[f] && path[f] == generic_path[crate, f]
+}
+
+function instance_statement(f, i) {
+    return "pub " f "_fixed : Fixed (" f ".ended row ghosts dict c e) (λ M 𝓤 𝓛. " f ".clauses row ghosts dict c e 𝓛) (with_methods " i f "_symbol.code) (named " i f "_symbol.name dnil)"
+}
+
+function numbered_statement(f, i) {
+    return " NewFixed N = Fixed (" f ".ended row ghosts dict c e N.ghosts N.dict) (λ M 𝓤 𝓛. " f ".clauses row ghosts dict c e N.ghosts N.dict 𝓛)" \
+        " (node [] [] (and N.method (and (with_methods " i f "_symbol.code) end))) (named " i f "_symbol.name (dcons N.dict dnil))"
+}
+
+# Whether an import gives another name to a part of a module, or a name that is taken.
+function is_strange_import(text, taken,   name) {
+    if (text ~ /[{].* as /) return 1
+    name = text
+    return sub(/.* as /, "", name) && (name in taken || name ~ /^[A-Z]/)
+}
+
+function read_each(lib,   part) {
+    split(lib, part, "/")
+    crate = part[2]
+    read_statements("crates/" crate "/proofs/Instance.antt", 0)
+    read_statements("crates/" crate "/proofs/EachProtocol.antt", 1)
+}
+
+# home[NAME] is the crate whose Instance.antt a name is of.
+function read_statements(name, is_whole,   text, at, part, count, i, begins, of) {
+    list = name
+    split("", home)
+    at = 0
+    while ((getline text < list) > 0) {
+        at++
+        if (text ~ /^ *(-- .*)?$/) continue
+        if (begins != "") {
+            if (index(text, begins) == 1) is_told[of]
+            else fall(list ":" at, "a proof is missing above: " text)
+            begins = ""
+        } else if (text ~ /^use Rattle[.][a-z0-9_]+[.]proofs[.]Instance[.][{][A-Za-z0-9_]+(, [A-Za-z0-9_]+)*[}]$/) {
+            count = split(text, part, "[.{}, ]+")
+            for (i = 6; i < count; i++) {
+                if (part[i] in home) fall(list ":" at, "this is not understood: " text)
+                home[part[i]] = part[3]
+            }
+        } else if (text ~ /^use / && is_strange_import(text, home)) fall(list ":" at, "this is not understood: " text)
+        else if (!is_whole && text ~ /^abbrev pub [a-z0-9_]+ : (Impl|Number [a-z0-9_]+)$/) {
+            split(text, part, " ")
+            home[part[3]] = crate
+        } else if (text ~ /^pub [a-z0-9_]+ : [A-Za-z]+( [a-z0-9_]+)+$/ && is_instance(text)) {
+            split(text, part, " ")
+            begins = part[2] " = "
+            of = home[part[4]] SUBSEP part[4] SUBSEP home[part[5]] SUBSEP part[5]
+        } else if (is_whole) fall(list ":" at, "this is not understood: " text)
+    }
+    close(list)
+}
+
+# Whether a line states a record of a memory, or `NewFixed` of one and its number.
+function is_instance(text,   part, count, i) {
+    count = split(text, part, " ")
+    for (i = 4; i <= count; i++) if (!(part[i] in home)) return 0
+    if (!((home[part[4]], part[4]) in is_statement)) return 0
+    return part[4] == "NewFixed" ? count == 6 && part[6] == part[5] "_number" && home[part[6]] == home[part[5]] : count == 5
+}
+
+function ask_each(   f, m, of, memory) {
+    for (f in is_statement) for (m in memory_trait) {
+        split(f, of, SUBSEP)
+        split(m, memory, SUBSEP)
+        if (memory_trait[m] != generic_trait[of[1]] || of[2] == "NewFixed" && !(m in is_numbered) || (f, m) in is_told) continue
+        fall("crates/" of[1] "/proofs/Instance.antt", "no EachProtocol.antt, nor the memory's own Instance.antt, says " of[2] " of " memory[2])
+    }
 }
 
 # A trait of ours: each method has its contract there, and each impl of a public type is held to a theorem.
