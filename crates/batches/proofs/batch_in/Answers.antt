@@ -15,7 +15,7 @@ loop-level-preserved g c =
     elim c.if-count-room.branch [
       | then-count-room w ↦ record {
         same_end =
-            rw (w.memory-is, w.edges-is, w.kinds-is, w.values-is, w.count-is)
+            rw (w.kept-is, w.edges-is, w.kinds-is, w.values-is, w.count-is)
             (goes_here g.M.Protocol.machine _ _ _ _ _ _ _ _ _ _ c.in-Some.ensures.steps w.event_total-report.ensures.report w.event_total-report.ensures.after w.if-count-room.true
             w.put-count.ensures.count w.put-count.ensures.edges w.put-count.ensures.kinds w.put-count.ensures.values ∙ kept.same_end);
         none_refused = kept.none_refused;
@@ -23,7 +23,7 @@ loop-level-preserved g c =
       }
       | else-count-room+else-not-quiet_step w ↦ record {
         same_end =
-            rw (w.memory-is, w.edges-is, w.kinds-is, w.values-is, w.count-is)
+            rw (w.kept-is, w.edges-is, w.kinds-is, w.values-is, w.count-is)
             (quiet_here g.M.Protocol.machine _ _ _ _ _ _ _ _ _ _ c.in-Some.ensures.steps w.quiet_step.ensures.taken w.quiet_step.ensures.after w.if-not-quiet_step.false ∙ kept.same_end);
         none_refused = kept.none_refused;
         counted = omega (arith, kept.counted, ap length c.in-Some.ensures.steps.1);
