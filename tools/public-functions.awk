@@ -282,7 +282,7 @@ function pass_attribute(   w) {
         exported = 1
         return follows("( no_mangle ) ]") ? word() : ""
     }
-    if (w == "inline" && rest ~ /^\]/) return follows("]") ? word() : ""
+    if (w ~ /^(inline|cold)$/ && rest ~ /^\]/) return follows("]") ? word() : ""
     if (w !~ /^(tactic|derive|inline)$/) return refuse(w)
     if (!follows("(")) return ""
     if (w == "derive") pass_derives()

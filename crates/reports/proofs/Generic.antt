@@ -22,6 +22,9 @@ use Rattle.reports.specs.contracts.protocol.Numbered.TheBound as numbered_bound
 use Rattle.reports.specs.contracts.protocol.event as event
 use Rattle.reports.proofs.protocol.event.Symbol as event_symbol
 use Rattle.reports.proofs.protocol.event.Met as event_met
+use Rattle.reports.specs.contracts.protocol.settle as settle
+use Rattle.reports.proofs.protocol.settle.Symbol as settle_symbol
+use Rattle.reports.proofs.protocol.settle.Met as settle_met
 use Rattle.reports.specs.contracts.protocol.event_total as event_total
 use Rattle.reports.proofs.protocol.event_total.Symbol as event_total_symbol
 use Rattle.reports.proofs.protocol.event_total.Met as event_total_met
@@ -60,6 +63,12 @@ module _ {M : Type 1} (𝓤 : Ura M) (𝓛 : Logic 𝓤) (𝓜 : Model 𝓤 𝓛
       (𝓡.run (𝓡.env (event_symbol.name (bounded (a_type ∷ []) (T, tt) (dcons d (dcons e dnil))))))
   event_fixed =
       (λ w. event_met.met 𝓤 𝓛 𝓜 𝓡 w.0 T laws copy P d C e w.1.0 w.1.1, λ κs a l. asks_lives 𝓤 l, λ κs a g h r s v w. both (one & one) (one & one) alike_left)
+
+  pub settle_fixed
+      : FixedWhere 𝓛 (settle.ended T P d C e) (settle.clauses T P d C e 𝓛 𝓜.mem 𝓡.returns) (Wired 𝓡.env settle_symbol.code × Bounds) (λ κs. lft_at 2 1 tt κs ⊑ T.lives)
+      (𝓡.run (𝓡.env (settle_symbol.name (bounded (a_type ∷ []) (T, tt) (dcons d (dcons e dnil))))))
+  settle_fixed =
+      (λ w. settle_met.met 𝓤 𝓛 𝓜 𝓡 w.0 T laws copy P d C e w.1.0 w.1.1, λ κs a l. asks_lives 𝓤 l, λ κs a g h r s v w. both (one & one) (one & one) (λ p q. alike_left p q))
 
   pub event_total_fixed
       : FixedWhere 𝓛 (event_total.ended T P d C e) (event_total.clauses T P d C e 𝓛 𝓜.mem 𝓡.returns) (Wired 𝓡.env event_total_symbol.code × Bounds) (λ κs. lft_at 3 2 tt κs ⊑ T.lives)

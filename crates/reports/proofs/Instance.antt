@@ -26,6 +26,8 @@ use Rattle.reports.specs.contracts.protocol.Numbered.TheBound as numbered_bound
 use Rattle.reports.proofs.Generic as generic
 use Rattle.reports.specs.contracts.protocol.event as event
 use Rattle.reports.proofs.protocol.event.Symbol as event_symbol
+use Rattle.reports.specs.contracts.protocol.settle as settle
+use Rattle.reports.proofs.protocol.settle.Symbol as settle_symbol
 use Rattle.reports.specs.contracts.protocol.event_total as event_total
 use Rattle.reports.proofs.protocol.event_total.Symbol as event_total_symbol
 use Rattle.reports.specs.contracts.protocol.Decoder.new as decoder_new
@@ -87,6 +89,7 @@ module _ (I : Impl) where
 
   pub record DecoderFixed : Type 2 where
     pub event_fixed : Fixed (event.ended row ghosts dict c e) (λ M 𝓤 𝓛. event.clauses row ghosts dict c e 𝓛) (with_methods event_symbol.code) (named event_symbol.name dnil)
+    pub settle_fixed : Fixed (settle.ended row ghosts dict c e) (λ M 𝓤 𝓛. settle.clauses row ghosts dict c e 𝓛) (with_methods settle_symbol.code) (named settle_symbol.name dnil)
     pub event_total_fixed : Fixed (event_total.ended row ghosts dict c e) (λ M 𝓤 𝓛. event_total.clauses row ghosts dict c e 𝓛) (with_methods event_total_symbol.code) (named event_total_symbol.name dnil)
     pub decoder_event_fixed : Fixed (decoder_event.ended row ghosts dict c e) (λ M 𝓤 𝓛. decoder_event.clauses row ghosts dict c e 𝓛) (with_methods decoder_event_symbol.code) (named decoder_event_symbol.name dnil)
     pub decoder_command_fixed : Fixed (decoder_command.ended row ghosts dict c e) (λ M 𝓤 𝓛. decoder_command.clauses row ghosts dict c e 𝓛) (with_methods decoder_command_symbol.code) (named decoder_command_symbol.name dnil)
@@ -111,6 +114,8 @@ module _ (I : Impl) where
   decoder_fixed = record {
     event_fixed = λ M 𝓤 𝓛 𝓜 𝓡. let f = generic.event_fixed 𝓤 𝓛 𝓜 𝓡 row laws copy ghosts dict c e in
         (λ w. f.0 (w.2.0, bounds M 𝓤 𝓛 𝓜 𝓡 w.2.1), λ κs a. f.1 κs a (I.lives (lft_at 3 2 tt κs)), f.2);
+    settle_fixed = λ M 𝓤 𝓛 𝓜 𝓡. let f = generic.settle_fixed 𝓤 𝓛 𝓜 𝓡 row laws copy ghosts dict c e in
+        (λ w. f.0 (w.2.0, bounds M 𝓤 𝓛 𝓜 𝓡 w.2.1), λ κs a. f.1 κs a (I.lives (lft_at 2 1 tt κs)), f.2);
     event_total_fixed = λ M 𝓤 𝓛 𝓜 𝓡. let f = generic.event_total_fixed 𝓤 𝓛 𝓜 𝓡 row laws copy ghosts dict c e in
         (λ w. f.0 (w.2.0, bounds M 𝓤 𝓛 𝓜 𝓡 w.2.1), λ κs a. f.1 κs a (I.lives (lft_at 3 2 tt κs)), f.2);
     decoder_event_fixed = λ M 𝓤 𝓛 𝓜 𝓡. let f = generic.decoder_event_fixed 𝓤 𝓛 𝓜 𝓡 row laws copy ghosts dict c e in

@@ -2,7 +2,7 @@
 ghost use Rattle.std.specs.Prelude.{◌≡◌, ℕ, not};
 ghost use Rattle.spans.specs.Spans.{spans_of};
 ghost use Rattle.reports.specs.Edges.{edge};
-ghost use Rattle.reports.specs.Machine.{Machine, stepped, event, total, made_of, event_of, total_of, reset_of};
+ghost use Rattle.reports.specs.Machine.{Machine, stepped, event, ruled, total, made_of, event_of, total_of, reset_of};
 
 use crate::{Report, Status};
 use refusals::Refusal;
@@ -65,17 +65,11 @@ pub fn event<M: Protocol>(memory: &mut M, spans: &Spans, rising: bool, duration:
 
 // The rule of event_total over the status that event answers: at Done the command and at an error the error, with a reset; else nothing. Refusal 4 leaves the memory as it was.
 #[inline(always)]
-#[tactic(auto, unfolding(crate::specs::Machine::total))]
-pub fn event_total<M: Protocol>(
-    memory: &mut M,
-    spans: &Spans,
-    rising: bool,
-    duration: u32,
-) -> Report
-    ensures report { result ≡ (total M.machine spans.now memory.old (edge rising duration)).report }
-    ensures after { memory.new ≡ (total M.machine spans.now memory.old (edge rising duration)).memory }
+pub fn settle<M: Protocol>(memory: &mut M, status: Status) -> Report
+    ensures report { result ≡ (ruled M.machine status memory.old).report }
+    ensures after { memory.new ≡ (ruled M.machine status memory.old).memory }
 {
-    match event(memory, spans, rising, duration) {
+    match status {
         Status::Idle | Status::Receiving => Report::Nothing,
         Status::Done => {
             let report = memory.command();
@@ -88,6 +82,22 @@ pub fn event_total<M: Protocol>(
         }
         Status::Refused(refusal) => Report::Refused(refusal),
     }
+}
+
+// One edge, and the rule over what event answers. Refusal 4 leaves the memory as it was.
+#[inline(always)]
+#[tactic(auto, unfolding(crate::specs::Machine::total))]
+pub fn event_total<M: Protocol>(
+    memory: &mut M,
+    spans: &Spans,
+    rising: bool,
+    duration: u32,
+) -> Report
+    ensures report { result ≡ (total M.machine spans.now memory.old (edge rising duration)).report }
+    ensures after { memory.new ≡ (total M.machine spans.now memory.old (edge rising duration)).memory }
+{
+    let status = event(memory, spans, rising, duration);
+    settle(memory, status)
 }
 
 // A decoder carries its eight spans inside its own state.
